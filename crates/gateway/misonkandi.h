@@ -1,0 +1,51 @@
+/* The C interface of Misonkandi (`rt staticlib gateway` writes target/staticlib/libgateway.a).
+ *
+ * A matrix is nine bytes, its cells read row by row: II IB IE BI BB BE EI EB EE. Each is 0, 1, 2 or 3 for
+ * F, 0, 1, 2; a larger number is read as 2 by every call.
+ * A position is 0 none, 1 Inside, 2 OnBoundary, 3 Outside.
+ * A text or pattern is any bytes and their count.
+ *
+ * A refusal is one word: 256 times document 01's number, plus the bad byte's place where there is one (0 to 8).
+ * A refused call leaves every byte that it was lent as it was.
+ */
+#ifndef MISONKANDI_H
+#define MISONKANDI_H
+
+#include <stddef.h>
+#include <stdint.h>
+
+#ifdef __cplusplus
+extern "C" {
+#endif
+
+/* All eleven answers: bit k is the answer of predicate k, in the order disjoint, intersects, within, contains,
+ * equal_topo, coveredby, covers, contains_properly, touches, crosses, overlaps. */
+uint32_t misonkandi_predicates(const uint8_t cells[9]);
+
+/* One answer, 1 yes or 0 no, of the predicate with that place in the same order; 2 if there is none. */
+uint32_t misonkandi_predicate(const uint8_t cells[9], uint32_t which);
+
+/* 1 yes, 0 no, or a refusal (10, or 11 with its place). */
+uint32_t misonkandi_matches(const uint8_t cells[9], const uint8_t *pattern, size_t count);
+
+/* Reads a matrix text: 0 and the cells written, or a refusal (10, 11) and nothing written. */
+uint32_t misonkandi_from_text(uint8_t cells[9], const uint8_t *text, size_t count);
+
+/* Raises each cell to at least its letter: 0 and the cells written, or a refusal (10, 11) and nothing written. */
+uint32_t misonkandi_raise_from_text(uint8_t cells[9], const uint8_t *text, size_t count);
+
+/* Writes the matrix's nine letters. */
+void misonkandi_to_text(const uint8_t cells[9], uint8_t text[9]);
+
+/* Sets, or raises to at least, the cell at (a, b); a none changes no cell. 0, or refusal 6 for a code above 3. */
+uint32_t misonkandi_set(uint8_t cells[9], uint32_t a, uint32_t b, uint8_t dimension);
+uint32_t misonkandi_set_at_least(uint8_t cells[9], uint32_t a, uint32_t b, uint8_t dimension);
+
+/* The matrix with the two geometries exchanged. */
+void misonkandi_transpose(uint8_t cells[9]);
+
+#ifdef __cplusplus
+}
+#endif
+
+#endif
