@@ -1,0 +1,6 @@
+-- What a reader of this crate must believe: each file opens with the sentence of document 01 that it writes down.
+pub mod Dimension
+pub mod Position
+pub mod Refused
+pub mod Matrix
+pub mod Cells

@@ -1,0 +1,78 @@
+// Every refusal of the house, one enum for all crates, with document 01's number and, for a bad byte, its place.
+ghost use mathlib.Core.Path.{_≡_};
+ghost use Rattle.de9im.specs.Refused.{numberOf, placeOf};
+
+pub enum Refusal {
+    // Fewer bytes than the length field needs or promises.
+    Short,
+    // Version not 1.
+    Version,
+    // Kind not 1 or 2.
+    Kind,
+    // Length wrong for its kind, or for a report.
+    Length,
+    // More than 32 ends.
+    Ends,
+    // Position code above 3, or node position 0.
+    PositionCode,
+    // Label kind above 1, or a line label with a side.
+    LabelKind,
+    // Direction 0,0 or a part beyond ±2,000,000,000.
+    Direction,
+    // For one geometry, some area bundle has a left and some has a right but no left.
+    MissingLeft,
+    // Text or pattern not nine bytes.
+    NotNineBytes,
+    // A bad byte in a text, pattern or report, with the first one's place, 0 to 8.
+    BadByte(usize),
+    // Offset beyond the buffer, or fewer than 12 bytes from it.
+    NoRoom,
+    // A coordinate not finite, or a box without min < max on both axes.
+    NotAPlace,
+}
+
+// A place where there is one.
+pub enum Spot {
+    Nowhere,
+    At(usize),
+}
+
+pub fn number(r: Refusal) -> u32
+    ensures { λ n. ⌜ n ≡ numberOf r ⌝ }
+{
+    match r {
+        Refusal::Short => 1,
+        Refusal::Version => 2,
+        Refusal::Kind => 3,
+        Refusal::Length => 4,
+        Refusal::Ends => 5,
+        Refusal::PositionCode => 6,
+        Refusal::LabelKind => 7,
+        Refusal::Direction => 8,
+        Refusal::MissingLeft => 9,
+        Refusal::NotNineBytes => 10,
+        Refusal::BadByte(_) => 11,
+        Refusal::NoRoom => 12,
+        Refusal::NotAPlace => 13,
+    }
+}
+
+pub fn place(r: Refusal) -> Spot
+    ensures { λ p. ⌜ p ≡ placeOf r ⌝ }
+{
+    match r {
+        Refusal::BadByte(k) => Spot::At(k),
+        Refusal::Short => Spot::Nowhere,
+        Refusal::Version => Spot::Nowhere,
+        Refusal::Kind => Spot::Nowhere,
+        Refusal::Length => Spot::Nowhere,
+        Refusal::Ends => Spot::Nowhere,
+        Refusal::PositionCode => Spot::Nowhere,
+        Refusal::LabelKind => Spot::Nowhere,
+        Refusal::Direction => Spot::Nowhere,
+        Refusal::MissingLeft => Spot::Nowhere,
+        Refusal::NotNineBytes => Spot::Nowhere,
+        Refusal::NoRoom => Spot::Nowhere,
+        Refusal::NotAPlace => Spot::Nowhere,
+    }
+}
