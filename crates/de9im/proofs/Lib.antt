@@ -1,4 +1,9 @@
 -- Facts about the definitions of specs/, each stated once.
+pub mod LawsBool
 pub mod LawsDimension
 pub mod LawsPosition
 pub mod LawsMatrix
+pub mod LawsLetters
+pub mod LawsPatterns
+pub mod LawsText
+pub mod LawsPredicates

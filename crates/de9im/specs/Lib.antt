@@ -4,3 +4,8 @@ pub mod Position
 pub mod Refused
 pub mod Matrix
 pub mod Cells
+pub mod Bytes
+pub mod Letters
+pub mod Patterns
+pub mod Text
+pub mod Predicates

@@ -1,8 +1,8 @@
 // The nine flat numbers of a matrix, read row by row as II IB IE BI BB BE EI EB EE: the form in which a matrix stands
 // beside an answer, and crosses to C. 0 to 3 stand for F, 0, 1, 2; a larger number is read as 2.
-use crate::dimensions::{dimension, number};
+use crate::dimensions::dimension;
+use crate::dimensions::number;
 use crate::intersection_matrix::IntersectionMatrix;
-
 ghost use mathlib.Core.Path.{_≡_};
 ghost use Rattle.de9im.specs.Cells.{cellsOf, matrixOf};
 

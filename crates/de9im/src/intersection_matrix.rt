@@ -1,7 +1,10 @@
 // The matrix: nine cells kept three by three, by value. Row: the first geometry's position; column: the second's.
-use crate::coordinate_position::{CoordPos, Position, known_as, row};
-use crate::dimensions::{Dimensions, max};
-
+use crate::coordinate_position::CoordPos;
+use crate::coordinate_position::Position;
+use crate::coordinate_position::known_as;
+use crate::coordinate_position::row;
+use crate::dimensions::Dimensions;
+use crate::dimensions::max;
 ghost use mathlib.Core.Path.{_≡_};
 ghost use mathlib.Core.Bool.{true};
 ghost use Prim.Native.Nat.{_<_};
@@ -65,7 +68,12 @@ pub fn set(m: IntersectionMatrix, a: Position, b: Position, d: Dimensions) -> In
     with_cell(m, i, j, d)
 }
 
-pub fn set_at_least(m: IntersectionMatrix, a: Position, b: Position, d: Dimensions) -> IntersectionMatrix
+pub fn set_at_least(
+    m: IntersectionMatrix,
+    a: Position,
+    b: Position,
+    d: Dimensions,
+) -> IntersectionMatrix
     ensures { λ r. ⌜ r ≡ atLeastOf m a b d ⌝ }
 {
     let i = row(a);
@@ -80,7 +88,12 @@ pub fn set_at_least(m: IntersectionMatrix, a: Position, b: Position, d: Dimensio
 }
 
 // The crate's name for raising where both positions are known.
-pub fn set_at_least_if_in_both(m: IntersectionMatrix, a: Position, b: Position, d: Dimensions) -> IntersectionMatrix
+pub fn set_at_least_if_in_both(
+    m: IntersectionMatrix,
+    a: Position,
+    b: Position,
+    d: Dimensions,
+) -> IntersectionMatrix
     ensures { λ r. ⌜ r ≡ atLeastOf m a b d ⌝ }
 {
     set_at_least(m, a, b, d)
