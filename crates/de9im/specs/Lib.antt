@@ -9,3 +9,4 @@ pub mod Letters
 pub mod Patterns
 pub mod Text
 pub mod Predicates
+pub mod Names

@@ -5,6 +5,7 @@ pub mod coordinate_position;
 pub mod dimension_matcher;
 pub mod dimensions;
 pub mod intersection_matrix;
+pub mod names;
 pub mod patterns;
 pub mod predicates;
 pub mod refusal;

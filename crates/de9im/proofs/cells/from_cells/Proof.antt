@@ -2,9 +2,6 @@ use borrow.Author.Needs.{needs}
 use Rattle.de9im.proofs.cells.from_cells.Statement.{statement}
 use Rattle.de9im.proofs.cells.from_cells.Tie as tie
 
-returns : tie.Need-returns
-returns c = cc
-
 pub from-cells-spec : {M : Type 1} → statement M
 from-cells-spec =
     tie.close
@@ -27,4 +24,4 @@ from-cells-spec =
     (λ c κs. search needs)
     (λ c. search needs)
     (λ c κs. search needs)
-    returns)
+    (λ c. cc))

@@ -2,9 +2,6 @@ use borrow.Author.Needs.{needs}
 use Rattle.de9im.proofs.cells.to_cells.Statement.{statement}
 use Rattle.de9im.proofs.cells.to_cells.Tie as tie
 
-returns : tie.Need-returns
-returns c = simp (c .number9 .ensures, c .before .before .number8 .ensures, c .before .before .before .before .number7 .ensures, c .before .before .before .before .before .before .number6 .ensures, c .before .before .before .before .before .before .before .before .number5 .ensures, c .before .before .before .before .before .before .before .before .before .before .number4 .ensures, c .before .before .before .before .before .before .before .before .before .before .before .before .number3 .ensures, c .before .before .before .before .before .before .before .before .before .before .before .before .before .before .number2 .ensures, c .before .before .before .before .before .before .before .before .before .before .before .before .before .before .before .before .number .ensures)
-
 pub to-cells-spec : {M : Type 1} → statement M
 to-cells-spec =
     tie.close
@@ -36,4 +33,4 @@ to-cells-spec =
     (λ c. search needs)
     (λ c. search needs)
     (λ c κs. search needs)
-    returns)
+    (λ c. simp (c .number9 .ensures, c .before .before .number8 .ensures, c .before .before .before .before .number7 .ensures, c .before .before .before .before .before .before .number6 .ensures, c .before .before .before .before .before .before .before .before .number5 .ensures, c .before .before .before .before .before .before .before .before .before .before .number4 .ensures, c .before .before .before .before .before .before .before .before .before .before .before .before .number3 .ensures, c .before .before .before .before .before .before .before .before .before .before .before .before .before .before .number2 .ensures, c .before .before .before .before .before .before .before .before .before .before .before .before .before .before .before .before .number .ensures)))

@@ -11,9 +11,6 @@ cell-requires c κs =
       rw (c .row2 .ensures, c .before .known-as2 .ensures) (known-row (s .args .rhs)),
     )
 
-returns : tie.Need-returns
-returns c = cc
-
 pub get-spec : {M : Type 1} → statement M
 get-spec =
     tie.close
@@ -23,4 +20,4 @@ get-spec =
     (λ c κs. search needs)
     (λ c κs. search needs)
     cell-requires
-    returns)
+    (λ c. cc))

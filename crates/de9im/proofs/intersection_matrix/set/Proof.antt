@@ -5,12 +5,6 @@ use Rattle.de9im.proofs.LawsMatrix.{none-left, none-right, known-both}
 use Rattle.de9im.proofs.intersection_matrix.set.Statement.{statement}
 use Rattle.de9im.proofs.intersection_matrix.set.Tie as tie
 
-returns : tie.Need-returns
-returns c = sym (none-left (c .before .before .before .args .a) (c .before .before .before .args .b) _ _ (omega arith))
-
-returns-2 : tie.Need-returns-2
-returns-2 c = sym (none-right (c .before .before .before .before .args .a) (c .before .before .before .before .args .b) _ _ (omega arith))
-
 returns-3 : tie.Need-returns-3
 returns-3 c =
     let s = c .before .before .before .before .before .args in
@@ -22,7 +16,7 @@ set-spec =
     (tie.spec
     (λ c κs. search needs)
     (λ c κs. search needs)
-    returns
-    returns-2
+    (λ c. sym (none-left (c .before .before .before .args .a) (c .before .before .before .args .b) _ _ (omega arith)))
+    (λ c. sym (none-right (c .before .before .before .before .args .a) (c .before .before .before .before .args .b) _ _ (omega arith)))
     (λ c κs. search needs)
     returns-3)

@@ -2,12 +2,9 @@ use borrow.Author.Needs.{needs}
 use Rattle.de9im.proofs.predicates.is_filled.Statement.{statement}
 use Rattle.de9im.proofs.predicates.is_filled.Tie as tie
 
-returns : tie.Need-returns
-returns c = simp (c .number .ensures)
-
 pub is-filled-spec : {M : Type 1} → statement M
 is-filled-spec =
     tie.close
     (tie.spec
     (λ c κs. search needs)
-    returns)
+    (λ c. simp (c .number .ensures)))

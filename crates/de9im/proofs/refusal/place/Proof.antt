@@ -2,9 +2,6 @@ use borrow.Author.Needs.{needs}
 use Rattle.de9im.proofs.refusal.place.Statement.{statement}
 use Rattle.de9im.proofs.refusal.place.Tie as tie
 
-returns : tie.Need-returns
-returns c = simp (c .before .r .given .1)
-
 pub place-spec : {M : Type 1} → statement M
 place-spec =
     tie.close
@@ -22,7 +19,7 @@ place-spec =
     (λ c. search needs)
     (λ c. search needs)
     (λ c. search needs)
-    returns
+    (λ c. simp (c .before .r .given .1))
     (λ c. search needs)
     (λ c. search needs)
     (λ c. search needs)
