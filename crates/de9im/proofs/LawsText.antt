@@ -55,11 +55,11 @@ module _ (t taken given : List ℕ) (nine : length t ≡ 9) where
   pub answered-bad : (k : ℕ) → badFrom goodByte t 0 ≡ At k → answered t taken given ≡ refused (BadByte k) given
   answered-bad k h = simp (eq-eqb _ _ nine, h)
 
-never : {r : Refusal} → Parsed.Accepted ≡ Parsed.Refused r → ⊥
+pub never : {r : Refusal} → Parsed.Accepted ≡ Parsed.Refused r → ⊥
 never e = let z : _≡_ {A = ℕ} 0 1 = cc in omega arith
 
 -- the answer by a test and a place: what `answered` picks from
-abbrev picked : Bool → Spot → List ℕ → List ℕ → TextAnswer
+abbrev pub picked : Bool → Spot → List ℕ → List ℕ → TextAnswer
 picked b s taken given = cond b (afterBad s taken given) (refused NotNineBytes given)
 
 refused-picked : (b : Bool) (s : Spot) (x z taken ns : List ℕ) (r : Refusal) → picked b s x z .parsed ≡ Parsed.Refused r

@@ -5,5 +5,8 @@ pub mod LawsPosition
 pub mod LawsMatrix
 pub mod LawsLetters
 pub mod LawsPatterns
+pub mod LawsForms
+pub mod LawsMatches
 pub mod LawsText
+pub mod LawsRoundTrip
 pub mod LawsPredicates

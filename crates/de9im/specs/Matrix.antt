@@ -1,10 +1,11 @@
 -- Document 01: "The matrix: nine cells kept three by three", "Start matrix: FFFFFFFF2. `set_at_least` makes a cell the
 -- larger of old and given; every other cell stays. With a none position nothing changes", "transposing builds a new one".
-use Prim.Native.Nat.{ℕ}
+use Prim.Native.Nat.{ℕ, _<_}
+use mathlib.Core.Path.{_≡_}
 use mathlib.Core.Bool.{cond, _&&_}
 use mathlib.Core.List.{List, [], _∷_}
 use lib.Dec.{ltb}
-use lib.ListN.{getD, set}
+use lib.ListN.{length, getD, set}
 use Rattle.de9im.specs.declared.dimensions.Dimensions.{Dimensions}
 use Rattle.de9im.specs.declared.dimensions.Dimensions.the-variants.{Empty, TwoDimensional}
 use Rattle.de9im.specs.declared.«coordinate_position».CoordPos.{CoordPos}
@@ -15,6 +16,11 @@ use Rattle.de9im.specs.Position.{known, rowOf}
 -- three rows of three
 abbrev pub Matrix : Type 0
 Matrix = List (List Dimensions)
+
+-- what every value of the type has: three rows, each of three cells
+pub record Shaped (m : Matrix) : Type 0 where
+  pub rows : length m ≡ 3
+  pub columns : (i : ℕ) → i < 3 → length (getD m i []) ≡ 3
 
 -- the cell in a row and a column
 abbrev pub cellAt : Matrix → ℕ → ℕ → Dimensions
