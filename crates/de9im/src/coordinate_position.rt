@@ -1,6 +1,6 @@
 // Where a point lies against one geometry: Inside (I), OnBoundary (B), Outside (E); and the same with a none.
 ghost use mathlib.Core.Path.{_≡_};
-ghost use Rattle.de9im.specs.Position.{rowOf, known};
+ghost use Rattle.de9im.specs.Position.{rowOf, known, codedOf};
 
 pub enum CoordPos {
     Inside,
@@ -35,5 +35,23 @@ pub fn row(p: Position) -> usize
         Position::OnBoundary => 1,
         Position::Outside => 2,
         Position::None => 3,
+    }
+}
+
+// What a position code of a record or a caller is.
+pub enum Coded {
+    Is(Position),
+    Bad,
+}
+
+pub fn position_coded(code: u32) -> Coded
+    ensures { λ r. ⌜ r ≡ codedOf code ⌝ }
+{
+    match code {
+        0 => Coded::Is(Position::None),
+        1 => Coded::Is(Position::Inside),
+        2 => Coded::Is(Position::OnBoundary),
+        3 => Coded::Is(Position::Outside),
+        _ => Coded::Bad,
     }
 }
