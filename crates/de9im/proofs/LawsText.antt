@@ -82,3 +82,13 @@ raised-refused ns t r e = refused-picked (eqb (length t) 9) (firstBad goodByte 0
 pub raised-accepted : (ns t : List ℕ) → readOf t .parsed ≡ Parsed.Accepted → accepted (raisedBy ns (readOf t .cells)) ≡ raisedFrom ns t
 unfolding readOf raisedFrom
 raised-accepted ns t e = accepted-picked (eqb (length t) 9) (firstBad goodByte 0 t) (numbersOf t) nineZeros ns e
+
+kept-picked : (b : Bool) (s : Spot) (taken ns : List ℕ) (r : Refusal) → picked b s taken ns .parsed ≡ Parsed.Refused r → picked b s taken ns .cells ≡ ns
+kept-picked true Nowhere taken ns r e = absurd (never e)
+kept-picked true (At k) taken ns r e = refl
+kept-picked false s taken ns r e = refl
+
+-- a refused raising has the numbers that it was given
+pub raised-kept : (ns t : List ℕ) (r : Refusal) → raisedFrom ns t .parsed ≡ Parsed.Refused r → raisedFrom ns t .cells ≡ ns
+unfolding raisedFrom
+raised-kept ns t r e = kept-picked (eqb (length t) 9) (firstBad goodByte 0 t) (raisedBy ns (numbersOf t)) ns r e
