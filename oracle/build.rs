@@ -118,23 +118,77 @@ fn library(place: &Path) -> PathBuf {
     println!("cargo:rerun-if-changed={}", library.display());
     assert!(
         library.exists(),
-        "{} isn't there: run `rt staticlib gateway` at the repository's root, or let MISONKANDI_LIB_DIR name its folder",
+        "{} isn't there: run library.sh, or let MISONKANDI_LIB_DIR name its folder",
         library.display()
     );
     library
 }
 
+fn link(place: &Path) {
+    println!("cargo:rustc-cfg=linked");
+    println!("cargo:rustc-link-search=native={}", place.display());
+    println!("cargo:rustc-link-lib=static=gateway");
+}
+
 fn link_library() {
     println!("cargo:rustc-check-cfg=cfg(far)");
+    println!("cargo:rustc-check-cfg=cfg(linked)");
     let place = folder("MISONKANDI_LIB_DIR", "../target/staticlib");
+    println!("cargo:rerun-if-changed={}", place.display());
     let library = library(&place);
-    if processor(&library) == env::var("CARGO_CFG_TARGET_ARCH").expect("cargo gives it") {
-        println!("cargo:rustc-link-search=native={}", place.display());
-        println!("cargo:rustc-link-lib=static=gateway");
+    let machine = env::var("CARGO_CFG_TARGET_ARCH").expect("cargo gives it");
+    let mut ours = String::from("the archive itself");
+    if processor(&library) == machine {
+        link(&place);
     } else {
         println!("cargo:rustc-cfg=far");
         build_far_side(&library);
+        let here = place.join(&machine);
+        if made_beside(&here, &library) {
+            link(&here);
+            let compiler = fs::read_to_string(here.join("compiler")).expect("library.sh wrote it");
+            ours = format!(
+                "the archive's LLVM module, compiled for {machine} by {}",
+                compiler.trim()
+            );
+        }
     }
+    println!("cargo:rustc-env=MISONKANDI_OURS={ours}");
+}
+
+/// Whether library.sh has compiled this archive's LLVM module for the processor that the oracle runs on.
+fn made_beside(here: &Path, library: &Path) -> bool {
+    let Ok(beside) = fs::read(here.join("beside.a")) else {
+        return false;
+    };
+    let fresh = fs::read(library).expect("the library can be read") == beside;
+    if !fresh {
+        println!(
+            "cargo:warning={} is of another libgateway.a and isn't linked: run library.sh again",
+            here.display()
+        );
+    }
+    fresh
+}
+
+/// The compiler of the crate's side, for the head of a table.
+fn name_the_compiler() {
+    let rustc = env::var_os("RUSTC").expect("cargo gives it");
+    let told = Command::new(rustc)
+        .arg("-vV")
+        .output()
+        .expect("rustc tells its version");
+    let told = String::from_utf8_lossy(&told.stdout);
+    let line = |start: &str| {
+        told.lines()
+            .find_map(|line| line.strip_prefix(start))
+            .unwrap_or("unknown")
+    };
+    println!(
+        "cargo:rustc-env=MISONKANDI_RUSTC=rustc {} with LLVM {}",
+        line("release: "),
+        line("LLVM version: ")
+    );
 }
 
 /// Links the library into far/far_side.c, a program for the library's own processor, and finds what can run it.
@@ -198,5 +252,6 @@ fn main() {
     println!("cargo:rerun-if-changed=build.rs");
     let out = from_cargo("OUT_DIR");
     lay_out_modules(&out);
+    name_the_compiler();
     link_library();
 }

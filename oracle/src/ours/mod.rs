@@ -2,11 +2,13 @@
 //!
 //! Where the library is built for the processor that the oracle runs on, it is linked and called (`linked`). The
 //! library is x86-64 code; elsewhere it is linked into a small program that an emulator runs, and the records go
-//! through a pipe (`far`). build.rs looks into the archive and decides.
+//! through a pipe (`far`). There the same LLVM module may be compiled for that processor and linked too: `bench` calls
+//! that and nothing else does. build.rs looks into the archive and decides.
 
 #[cfg(far)]
 mod far;
-#[cfg(not(far))]
+#[cfg(linked)]
+#[cfg_attr(far, allow(dead_code))]
 pub mod linked;
 
 /// The longest text that is asked with.
