@@ -1,0 +1,145 @@
+/* Answers calls of the C interface that come as records on standard input: the library's side of a comparison that
+ * runs on a processor that the library isn't built for. It is x86-64 Linux code without a C library, so that a
+ * compiler and a linker are enough to build it. src/ours/far.rs is the other side and has the same numbers.
+ *
+ * A batch is its count (4 bytes), then for each call: operation, a (4), b (4), dimension, count of text bytes, the nine
+ * cells with a guard of nine on either side (27), text (24). The answer to each: word (4), the 27 bytes, the text. */
+#include "misonkandi.h"
+
+enum { GUARD = 9, LENT = 27, LONGEST = 24, SENT = 11 + LENT + LONGEST, RETURNED = 4 + LENT + LONGEST, BATCH = 1024 };
+
+static uint8_t sent[BATCH * SENT];
+static uint8_t returned[BATCH * RETURNED];
+
+static long system_call(long number, long first, long second, long third)
+{
+    long answer;
+    __asm__ volatile("syscall"
+                     : "=a"(answer)
+                     : "a"(number), "D"(first), "S"(second), "d"(third)
+                     : "rcx", "r11", "memory");
+    return answer;
+}
+
+static void end(int status)
+{
+    for (;;)
+        system_call(60, status, 0, 0);
+}
+
+/* Code that a compiler made may call these four. */
+void *memcpy(void *to, const void *from, size_t count)
+{
+    uint8_t *t = to;
+    const uint8_t *f = from;
+    while (count--)
+        *t++ = *f++;
+    return to;
+}
+
+void *memmove(void *to, const void *from, size_t count)
+{
+    uint8_t *t = to;
+    const uint8_t *f = from;
+    if (t < f)
+        return memcpy(to, from, count);
+    while (count--)
+        t[count] = f[count];
+    return to;
+}
+
+void *memset(void *to, int byte, size_t count)
+{
+    uint8_t *t = to;
+    while (count--)
+        *t++ = (uint8_t)byte;
+    return to;
+}
+
+int memcmp(const void *one, const void *other, size_t count)
+{
+    const uint8_t *a = one, *b = other;
+    for (; count--; a++, b++)
+        if (*a != *b)
+            return *a - *b;
+    return 0;
+}
+
+/* 1 if all bytes came, 0 at the end of the input before the first of them. */
+static int read_all(uint8_t *to, size_t count)
+{
+    size_t have = 0;
+    while (have < count) {
+        long got = system_call(0, 0, (long)(to + have), (long)(count - have));
+        if (got == 0 && have == 0)
+            return 0;
+        if (got <= 0)
+            end(2);
+        have += (size_t)got;
+    }
+    return 1;
+}
+
+static void write_all(const uint8_t *from, size_t count)
+{
+    while (count > 0) {
+        long put = system_call(1, 1, (long)from, (long)count);
+        if (put <= 0)
+            end(3);
+        from += put;
+        count -= (size_t)put;
+    }
+}
+
+static uint32_t word_at(const uint8_t *at)
+{
+    return at[0] | (uint32_t)at[1] << 8 | (uint32_t)at[2] << 16 | (uint32_t)at[3] << 24;
+}
+
+static uint32_t call(uint8_t operation, uint32_t a, uint32_t b, uint8_t dimension, uint8_t count, uint8_t *cells,
+                     uint8_t *text)
+{
+    switch (operation) {
+    case 0: return misonkandi_predicates(cells);
+    case 1: return misonkandi_predicate(cells, a);
+    case 2: return misonkandi_matches(cells, text, count);
+    case 3: return misonkandi_from_text(cells, text, count);
+    case 4: return misonkandi_raise_from_text(cells, text, count);
+    case 5: misonkandi_to_text(cells, text); return 0;
+    case 6: return misonkandi_set(cells, a, b, dimension);
+    case 7: return misonkandi_set_at_least(cells, a, b, dimension);
+    case 8: misonkandi_transpose(cells); return 0;
+    }
+    end(4);
+    return 0;
+}
+
+static void answer(const uint8_t *from, uint8_t *to)
+{
+    uint8_t *lent = to + 4, *text = lent + LENT;
+    memcpy(lent, from + 11, LENT + LONGEST);
+    uint32_t word = call(from[0], word_at(from + 1), word_at(from + 5), from[9], from[10], lent + GUARD, text);
+    for (int i = 0; i < 4; i++)
+        to[i] = (uint8_t)(word >> 8 * i);
+}
+
+static void serve(void)
+{
+    uint8_t head[4];
+    while (read_all(head, 4)) {
+        uint32_t count = word_at(head);
+        if (count > BATCH || !read_all(sent, count * SENT))
+            end(5);
+        for (uint32_t i = 0; i < count; i++)
+            answer(sent + i * SENT, returned + i * RETURNED);
+        write_all(returned, count * RETURNED);
+    }
+    end(0);
+}
+
+/* The system enters here with the stack at a multiple of 16; a call then leaves it as compiled code expects it. */
+__asm__(".globl _start\n_start:\n    xor %ebp, %ebp\n    call serve_from_start\n");
+void serve_from_start(void)
+{
+    serve();
+}

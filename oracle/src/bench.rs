@@ -1,0 +1,192 @@
+//! Timings of both sides in one process, on the same inputs, as a Markdown table.
+//!
+//! The crate's functions are compiled with the loops that call them and may be inlined there; the library's are
+//! reached through its C interface, as its callers reach them. Before a line is timed, the library must give document
+//! 01's answer to each of its inputs; the crate isn't asked there, since a second place that calls it may undo the
+//! inlining.
+
+use crate::asked;
+use crate::ours::{Call, Op};
+use crate::pieces::{agreeing_pattern, disagreeing, good_pattern, good_text};
+use crate::random::Random;
+use crate::relate::geomgraph::intersection_matrix::IntersectionMatrix;
+use crate::rule;
+use std::hint::black_box;
+use std::str::FromStr;
+use std::time::Instant;
+
+#[cfg(linked)]
+use crate::ours::linked;
+
+/// Nothing of the library can be called on this processor, and nothing of this is.
+#[cfg(not(linked))]
+mod linked {
+    pub fn predicates(_: &[u8; 9]) -> u32 {
+        unreachable!()
+    }
+
+    pub fn matches(_: &[u8; 9], _: &[u8]) -> u32 {
+        unreachable!()
+    }
+
+    pub fn from_text(_: &mut [u8; 9], _: &[u8]) -> u32 {
+        unreachable!()
+    }
+}
+
+const SEED: u64 = 1;
+/// So many inputs, gone through in order, that no branch can be learnt by heart. With 4096 a processor still learns
+/// part of them, and then each side's time hangs on how often the other one's turn comes.
+const INPUTS: usize = 32768;
+const PASSES: usize = 3;
+const ROUNDS: usize = 60;
+
+/// One matrix as both sides keep it, and one text.
+struct Input {
+    matrix: IntersectionMatrix,
+    cells: [u8; 9],
+    text: String,
+}
+
+/// The best of the rounds so far, in nanoseconds for one call.
+struct Best(f64);
+
+impl Best {
+    fn round<T>(&mut self, call: impl Fn(&Input) -> T, inputs: &[Input]) {
+        let start = Instant::now();
+        for _ in 0..PASSES {
+            for input in inputs {
+                black_box(call(black_box(input)));
+            }
+        }
+        let nanoseconds = start.elapsed().as_nanos() as f64;
+        self.0 = self.0.min(nanoseconds / (PASSES * inputs.len()) as f64);
+    }
+}
+
+/// One line of the table. The sides take turns, so that a busy machine slows both.
+fn measure<T, U: PartialEq>(
+    name: &str,
+    inputs: &[Input],
+    theirs: impl Fn(&Input) -> T,
+    ours: impl Fn(&Input) -> U,
+    right: impl Fn(&Input) -> U,
+) {
+    if cfg!(linked) {
+        let all = inputs.iter().all(|input| ours(input) == right(input));
+        assert!(all, "{name}: the library's answers aren't document 01's");
+    }
+    let (mut crates, mut library) = (Best(f64::MAX), Best(f64::MAX));
+    for _ in 0..ROUNDS {
+        crates.round(&theirs, inputs);
+        if cfg!(linked) {
+            library.round(&ours, inputs);
+        }
+    }
+    if cfg!(linked) {
+        let ratio = crates.0 / library.0;
+        println!(
+            "| {name} | {:.2} | {:.2} | {ratio:.2} |",
+            crates.0, library.0
+        );
+    } else {
+        println!("| {name} | {:.2} | not measured | |", crates.0);
+    }
+}
+
+fn inputs(
+    random: &mut Random,
+    mut text: impl FnMut(&mut Random, &[u8; 9]) -> [u8; 9],
+) -> Vec<Input> {
+    let mut input = |_| {
+        let cells = random.cells();
+        Input {
+            matrix: asked::matrix(&cells),
+            cells,
+            text: String::from_utf8(text(random, &cells).to_vec()).expect("letters are ASCII"),
+        }
+    };
+    (0..INPUTS).map(&mut input).collect()
+}
+
+/// A pattern that agrees before `place` and disagrees there.
+fn disagreeing_at(random: &mut Random, cells: &[u8; 9], place: usize) -> [u8; 9] {
+    let mut pattern = agreeing_pattern(random, cells);
+    pattern[place] = disagreeing(random, cells[place]);
+    pattern
+}
+
+fn measure_matches(name: &str, inputs: &[Input]) {
+    measure(
+        name,
+        inputs,
+        |input| input.matrix.matches(&input.text),
+        |input| linked::matches(&input.cells, input.text.as_bytes()),
+        |input| rule::matches(&input.cells, input.text.as_bytes()),
+    );
+}
+
+fn measure_predicates(name: &str, inputs: &[Input]) {
+    measure(
+        name,
+        inputs,
+        |input| asked::predicates(&input.matrix),
+        |input| linked::predicates(&input.cells),
+        |input| rule::predicates(&input.cells),
+    );
+}
+
+fn measure_text_in(name: &str, inputs: &[Input]) {
+    measure(
+        name,
+        inputs,
+        |input| IntersectionMatrix::from_str(&input.text),
+        |input| {
+            let mut cells = [0; 9];
+            let word = linked::from_text(&mut cells, input.text.as_bytes());
+            (word, cells)
+        },
+        |input| {
+            let call = Call::with_text(Op::FromText, [0; 9], input.text.as_bytes());
+            let outcome = rule::outcome(&call);
+            (outcome.word, outcome.nine)
+        },
+    );
+}
+
+pub fn main() {
+    let random = &mut Random::new(SEED);
+    println!(
+        "Best of {ROUNDS} rounds of {} calls over {INPUTS} random inputs, {}.",
+        PASSES * INPUTS,
+        std::env::consts::ARCH
+    );
+    println!("Crate: {}.", env!("MISONKANDI_RUSTC"));
+    if cfg!(linked) {
+        println!(
+            "Ours: {}, linked into this process.",
+            env!("MISONKANDI_OURS")
+        );
+    } else {
+        println!(
+            "Ours: not built for this processor, and a time under an emulator says nothing. Run library.sh first."
+        );
+    }
+    println!();
+    println!("| call | crate, ns | ours, ns | crate / ours |");
+    println!("|---|---:|---:|---:|");
+    let first = inputs(random, |random, cells| disagreeing_at(random, cells, 0));
+    measure_matches("`matches`, disagrees at the first cell", &first);
+    let early = inputs(random, |random, cells| {
+        let place = 1 + random.below(3);
+        disagreeing_at(random, cells, place)
+    });
+    measure_matches("`matches`, disagrees at the second to fourth cell", &early);
+    let agrees = inputs(random, agreeing_pattern);
+    measure_matches("`matches`, agrees in nine cells", &agrees);
+    let any = inputs(random, |random, _| good_pattern(random));
+    measure_matches("`matches`, random good patterns", &any);
+    measure_predicates("all eleven predicates of one matrix", &any);
+    let texts = inputs(random, |random, _| good_text(random));
+    measure_text_in("text in", &texts);
+}

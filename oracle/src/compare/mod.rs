@@ -1,0 +1,88 @@
+//! The comparison: the same calls to the crate and to the library, and document 01's rules beside them.
+
+mod changes;
+mod matches;
+mod predicates;
+mod tally;
+mod text;
+
+use crate::asked;
+use crate::ours::{Call, Library};
+use crate::random::Random;
+use tally::Tally;
+
+const SEED: u64 = 20_250_101;
+/// Calls that are answered in one go; it matters only where the library runs in a program of its own.
+const BATCH: usize = 4096;
+
+/// A run: where calls are gathered, answered and counted.
+struct Run {
+    random: Random,
+    multiplier: usize,
+    library: Library,
+    waiting: Vec<Call>,
+    kind: &'static str,
+    tally: Tally,
+}
+
+impl Run {
+    /// Calls that follow are counted under this name.
+    fn begin(&mut self, kind: &'static str) {
+        self.answer_waiting();
+        self.kind = kind;
+        self.tally.begin(kind);
+    }
+
+    fn ask(&mut self, call: Call) {
+        self.waiting.push(call);
+        if self.waiting.len() == BATCH {
+            self.answer_waiting();
+        }
+    }
+
+    fn answer_waiting(&mut self) {
+        let replies = self.library.answer(&self.waiting);
+        for (call, reply) in self.waiting.drain(..).zip(replies) {
+            self.tally.take(self.kind, &call, &reply);
+        }
+    }
+
+    /// A count of random inputs, with the multiplier of the command line.
+    fn times(&self, count: usize) -> usize {
+        count * self.multiplier
+    }
+}
+
+/// A number from the command line, or its default.
+fn argument(place: usize, default: u64) -> u64 {
+    match std::env::args().nth(place) {
+        Some(word) => word.parse().unwrap_or_else(|_| {
+            eprintln!("usage: compare [SEED [MULTIPLIER]]   (whole numbers)");
+            std::process::exit(2)
+        }),
+        None => default,
+    }
+}
+
+/// Compares everything, reports, and answers the exit status.
+pub fn main() -> i32 {
+    let seed = argument(1, SEED);
+    let multiplier = argument(2, 1) as usize;
+    asked::hush_the_crate();
+    let mut run = Run {
+        random: Random::new(seed),
+        multiplier,
+        library: Library::open(),
+        waiting: Vec::with_capacity(BATCH),
+        kind: "",
+        tally: Tally::default(),
+    };
+    println!("seed {seed}, random counts times {multiplier}");
+    println!("the library is {}", run.library.way());
+    predicates::compare(&mut run);
+    matches::compare(&mut run);
+    text::compare(&mut run);
+    changes::compare(&mut run);
+    run.answer_waiting();
+    run.tally.report()
+}

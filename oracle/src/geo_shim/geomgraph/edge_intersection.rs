@@ -1,0 +1,3 @@
+//! Shim: geomgraph/mod.rs names this type; nothing that is compared asks it anything.
+
+pub(crate) struct EdgeIntersection;

@@ -1,0 +1,1 @@
+//! Shim: geomgraph/mod.rs declares this module; nothing of it is asked for.

@@ -1,0 +1,32 @@
+//! The crate's own files (geo 0.33.1), a shim for the names they lean on, and what is asked of both sides.
+//!
+//! README.md says file by file what is the crate's text and what isn't.
+
+// The macros must stand before the crate's files: those write them without a path.
+#[macro_use]
+mod log_shim;
+mod geo_shim;
+
+// The names that the crate's files take from their own root.
+pub(crate) use dimensions::HasDimensions;
+pub(crate) use geo_shim::contains_properly::ContainsProperly;
+pub(crate) use geo_shim::geometry::{
+    Coord, Geometry, GeometryCollection, Line, LineString, MultiLineString, MultiPoint,
+    MultiPolygon, Point, Polygon, Rect, Triangle,
+};
+pub(crate) use geo_shim::numbers::{CoordNum, GeoFloat, GeoNum};
+pub(crate) use geo_shim::{coordinate_position, dimensions};
+pub(crate) use geometry_cow::GeometryCow;
+
+// The crate's text: `geometry_cow` and `relate::geomgraph`, as build.rs laid them out.
+include!(concat!(env!("OUT_DIR"), "/geo_modules.rs"));
+
+pub mod bench;
+pub mod compare;
+pub mod sample;
+
+mod asked;
+mod ours;
+mod pieces;
+mod random;
+mod rule;

@@ -1,0 +1,157 @@
+//! Document 01's own rules, written down plainly and apart from the crate.
+//!
+//! The crate answers no number and no place for a refusal, and can't be asked at all about bytes that aren't UTF-8,
+//! about a none in `set`, about codes above 3 or about transposing. There these rules decide; elsewhere they are held
+//! to the crate's answers like ours.
+
+use crate::ours::{Call, Op};
+
+/// Refusals are 256 times the number, plus the place where there is one.
+pub const BAD_CODE: u32 = 256 * 6;
+pub const NOT_NINE: u32 = 256 * 10;
+pub const BAD_BYTE: u32 = 256 * 11;
+
+/// What a call must answer, and the nine bytes that it must leave.
+#[derive(Clone, Debug, PartialEq, Eq)]
+pub struct Outcome {
+    pub word: u32,
+    pub nine: [u8; 9],
+}
+
+/// "A larger number in a matrix given is read as 2 by every operation."
+pub fn read(cells: &[u8; 9]) -> [u8; 9] {
+    cells.map(|cell| cell.min(3))
+}
+
+/// Whether a word of a call other than the predicates is a refusal.
+pub fn refuses(word: u32) -> bool {
+    word >= 256
+}
+
+pub fn outcome(call: &Call) -> Outcome {
+    let same = |word| Outcome {
+        word,
+        nine: call.cells,
+    };
+    match call.op {
+        Op::Predicates => same(predicates(&call.cells)),
+        Op::Predicate if call.a >= 11 => same(2),
+        Op::Predicate => same(predicates(&call.cells) >> call.a & 1),
+        Op::Matches => same(matches(&call.cells, call.text())),
+        Op::FromText => changed(call, letters(call.text())),
+        Op::Raise => changed(call, raised(&call.cells, call.text())),
+        Op::ToText => Outcome {
+            word: 0,
+            nine: read(&call.cells).map(|cell| b"F012"[cell as usize]),
+        },
+        Op::Set => changed(call, set(call, |_, given| given)),
+        Op::SetAtLeast => changed(call, set(call, u8::max)),
+        Op::Transpose => changed(call, Ok(transposed(&call.cells))),
+    }
+}
+
+/// "A refusal returns the matrix given", and hands a larger number back as it is.
+fn changed(call: &Call, result: Result<[u8; 9], u32>) -> Outcome {
+    match result {
+        Ok(nine) => Outcome { word: 0, nine },
+        Err(word) => Outcome {
+            word,
+            nine: call.cells,
+        },
+    }
+}
+
+/// Whether a pattern's byte agrees with a dimension, or None for a bad byte.
+fn agrees(byte: u8, dimension: u8) -> Option<bool> {
+    match byte {
+        b'*' => Some(true),
+        b'T' | b't' => Some(dimension != 0),
+        b'F' | b'f' => Some(dimension == 0),
+        b'0'..=b'2' => Some(dimension == byte - b'0' + 1),
+        _ => None,
+    }
+}
+
+pub fn matches(cells: &[u8; 9], pattern: &[u8]) -> u32 {
+    if pattern.len() != 9 {
+        return NOT_NINE;
+    }
+    for (place, (byte, dimension)) in pattern.iter().zip(read(cells)).enumerate() {
+        match agrees(*byte, dimension) {
+            None => return BAD_BYTE + place as u32,
+            Some(false) => return 0,
+            Some(true) => {}
+        }
+    }
+    1
+}
+
+/// The nine dimensions of a matrix text, or its refusal.
+fn letters(text: &[u8]) -> Result<[u8; 9], u32> {
+    let text: &[u8; 9] = text.try_into().map_err(|_| NOT_NINE)?;
+    let mut cells = [0; 9];
+    for (place, byte) in text.iter().enumerate() {
+        cells[place] = match byte {
+            b'F' => 0,
+            b'0'..=b'2' => byte - b'0' + 1,
+            _ => return Err(BAD_BYTE + place as u32),
+        };
+    }
+    Ok(cells)
+}
+
+fn raised(cells: &[u8; 9], text: &[u8]) -> Result<[u8; 9], u32> {
+    let least = letters(text)?;
+    let given = read(cells);
+    Ok(std::array::from_fn(|place| given[place].max(least[place])))
+}
+
+/// "With a none position nothing changes."
+fn set(call: &Call, join: impl Fn(u8, u8) -> u8) -> Result<[u8; 9], u32> {
+    if call.a > 3 || call.b > 3 {
+        return Err(BAD_CODE);
+    }
+    let mut cells = read(&call.cells);
+    if call.a != 0 && call.b != 0 {
+        let place = (3 * (call.a - 1) + call.b - 1) as usize;
+        cells[place] = join(cells[place], call.dimension.min(3));
+    }
+    Ok(cells)
+}
+
+fn transposed(cells: &[u8; 9]) -> [u8; 9] {
+    let given = read(cells);
+    std::array::from_fn(|place| given[place % 3 * 3 + place / 3])
+}
+
+/// Document 01's table, in its order, each row by its own words.
+pub fn predicates(cells: &[u8; 9]) -> u32 {
+    let any = |patterns: &[&str]| {
+        patterns
+            .iter()
+            .any(|pattern| matches(cells, pattern.as_bytes()) == 1)
+    };
+    let [ii, ib, ie, bi, _, _, ei, _, _] = read(cells);
+    let a = ii.max(ib).max(ie);
+    let b = ii.max(bi).max(ei);
+    let disjoint = any(&["FF*FF****"]);
+    let answers = [
+        disjoint,
+        !disjoint,
+        any(&["T*F**F***"]),
+        any(&["T*****FF*"]),
+        any(&["FFFFFFFF2", "T*F**FFF*"]),
+        any(&["T*F**F***", "*TF**F***", "**FT*F***", "**F*TF***"]),
+        any(&["T*****FF*", "*T****FF*", "***T**FF*", "****T*FF*"]),
+        any(&["T**FF*FF*"]),
+        any(&["FT*******", "F**T*****", "F***T****"]),
+        a < b && any(&["T*T******"]) || a > b && any(&["T*****T**"]) || a == 2 && b == 2 && ii == 1,
+        a == 2 && b == 2 && any(&["1*T***T**"])
+            || (a == 1 && b == 1 || a == 3 && b == 3) && any(&["T*T***T**"]),
+    ];
+    answers
+        .iter()
+        .enumerate()
+        .map(|(k, yes)| u32::from(*yes) << k)
+        .sum()
+}
