@@ -4,7 +4,8 @@ use mathlib.Core.Bool.{Bool, true, false, not, _&&_, _||_}
 
 -- none of eight fails, and a ninth holds: all nine hold
 pub all-nine : (a b c d e f g h k : Bool)
-    → (not (not a || not b || not c || not d || not e || not f || not g || not h) && k) ≡ (a && (b && (c && (d && (e && (f && (g && (h && k))))))))
+    → (not (not a || not b || not c || not d || not e || not f || not g || not h) && k) ≡
+    (a && (b && (c && (d && (e && (f && (g && (h && k))))))))
 all-nine false b c d e f g h k = refl
 all-nine true false c d e f g h k = refl
 all-nine true true false d e f g h k = refl

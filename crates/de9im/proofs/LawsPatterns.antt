@@ -39,7 +39,8 @@ from p m k = walk k (drop k p) (drop k (cellsOf m))
 
 -- one step, at a cell and its letter
 module _ (p : List ℕ) (m : Matrix) (i j : ℕ) (hi : i < 3) (hj : j < 3) (nine : length p ≡ 9) where
-  from-step : from p m (3 * i + j) ≡ atCell (letterOf (getD p (3 * i + j) 0)) (3 * i + j) (dimNo (cellAt m i j)) (from p m (3 * i + (j + 1)))
+  from-step : from p m (3 * i + j) ≡ atCell (letterOf (getD p (3 * i + j) 0)) (3 * i + j) (dimNo (cellAt m i j))
+      (from p m (3 * i + (j + 1)))
   unfolding walk
   from-step =
       let k = 3 * i + j in

@@ -17,7 +17,19 @@ use Rattle.de9im.specs.declared.text.TextAnswer.{TextAnswer}
 use Rattle.de9im.specs.Dimension.{dimNo, dimOf}
 use Rattle.de9im.specs.Matrix.{Matrix}
 use Rattle.de9im.specs.Cells.{cellsOf, matrixOf}
-use Rattle.de9im.specs.Text.{byteOf, textOf, cellLetterOf, isGood, letterNo, goodByte, firstBad, numbersOf, nineZeros, accepted, readOf}
+use Rattle.de9im.specs.Text.{
+  byteOf,
+  textOf,
+  cellLetterOf,
+  isGood,
+  letterNo,
+  goodByte,
+  firstBad,
+  numbersOf,
+  nineZeros,
+  accepted,
+  readOf,
+}
 use Rattle.de9im.proofs.LawsForms.{nine-spelled}
 use Rattle.de9im.proofs.LawsText.{picked, never}
 

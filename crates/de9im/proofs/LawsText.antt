@@ -15,7 +15,19 @@ use Rattle.de9im.specs.declared.refusal.Refusal.{Refusal}
 use Rattle.de9im.specs.declared.refusal.Refusal.the-variants.{NotNineBytes, BadByte}
 use Rattle.de9im.specs.declared.text.Parsed.the-variants as Parsed
 use Rattle.de9im.specs.declared.text.TextAnswer.{TextAnswer}
-use Rattle.de9im.specs.Text.{firstBad, goodByte, answered, afterBad, accepted, refused, numbersOf, nineZeros, readOf, raisedBy, raisedFrom}
+use Rattle.de9im.specs.Text.{
+  firstBad,
+  goodByte,
+  answered,
+  afterBad,
+  accepted,
+  refused,
+  numbersOf,
+  nineZeros,
+  readOf,
+  raisedBy,
+  raisedFrom,
+}
 
 -- the first bad byte from place k on, of all bytes
 abbrev pub badFrom : (ℕ → Bool) → List ℕ → ℕ → Spot
@@ -41,7 +53,14 @@ map-snoc f (y ∷ ys) x = ap (λ l. f y ∷ l) (map-snoc f ys x)
 -- writing f of the k-th element at k makes the first k + 1 of a list the first k + 1 of the mapped one
 pub mapped-next : (f : ℕ → ℕ) (out t : List ℕ) (k : ℕ) → k < length out → k < length t
     → take k out ≡ map f (take k t) → take (k + 1) (set out k (f (getD t k 0))) ≡ map f (take (k + 1) t)
-mapped-next f out t k ho ht e = rw (add-one, take-suc-set out k (f (getD t k 0)) ho, take-suc t k 0 ht, map-snoc f (take k t) (getD t k 0), e) refl
+mapped-next f out t k ho ht e = rw (
+  add-one,
+  take-suc-set out k (f (getD t k 0)) ho,
+  take-suc t k 0 ht,
+  map-snoc f (take k t)
+      (getD t k 0),
+  e,
+) refl
 
 -- and once all are written, it is the mapped list
 pub mapped-all : (f : ℕ → ℕ) (out t : List ℕ) (k : ℕ) → length out ≤ k → length t ≤ k → take k out ≡ map f (take k t) → out ≡ map f t
@@ -75,15 +94,18 @@ accepted-picked true (At k) x z ns e = absurd (never (sym e))
 accepted-picked false s x z ns e = absurd (never (sym e))
 
 -- raising goes by what reading the same text answers: a refusal is handed on with the given numbers
-pub raised-refused : (ns t : List ℕ) (r : Refusal) → readOf t .parsed ≡ Parsed.Refused r → record { parsed = readOf t .parsed; cells = ns } ≡ raisedFrom ns t
+pub raised-refused : (ns t : List ℕ) (r : Refusal) → readOf t .parsed ≡ Parsed.Refused r
+    → record { parsed = readOf t .parsed; cells = ns } ≡ raisedFrom ns t
 unfolding readOf raisedFrom
-raised-refused ns t r e = refused-picked (eqb (length t) 9) (firstBad goodByte 0 t) (numbersOf t) nineZeros (raisedBy ns (numbersOf t)) ns r e
+raised-refused ns t r e = refused-picked (eqb (length t) 9) (firstBad goodByte 0 t) (numbersOf t) nineZeros
+    (raisedBy ns (numbersOf t)) ns r e
 
 pub raised-accepted : (ns t : List ℕ) → readOf t .parsed ≡ Parsed.Accepted → accepted (raisedBy ns (readOf t .cells)) ≡ raisedFrom ns t
 unfolding readOf raisedFrom
 raised-accepted ns t e = accepted-picked (eqb (length t) 9) (firstBad goodByte 0 t) (numbersOf t) nineZeros ns e
 
-kept-picked : (b : Bool) (s : Spot) (taken ns : List ℕ) (r : Refusal) → picked b s taken ns .parsed ≡ Parsed.Refused r → picked b s taken ns .cells ≡ ns
+kept-picked : (b : Bool) (s : Spot) (taken ns : List ℕ) (r : Refusal) → picked b s taken ns .parsed ≡ Parsed.Refused r
+    → picked b s taken ns .cells ≡ ns
 kept-picked true Nowhere taken ns r e = absurd (never e)
 kept-picked true (At k) taken ns r e = refl
 kept-picked false s taken ns r e = refl

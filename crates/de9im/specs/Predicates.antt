@@ -8,7 +8,19 @@ use Rattle.de9im.specs.declared.dimensions.Dimensions.the-variants.{Empt
 use Rattle.de9im.specs.declared.«coordinate_position».CoordPos.{CoordPos}
 use Rattle.de9im.specs.declared.«coordinate_position».CoordPos.the-variants.{Inside as I, OnBoundary as B, Outside as E}
 use Rattle.de9im.specs.declared.predicates.Predicate.{Predicate}
-use Rattle.de9im.specs.declared.predicates.Predicate.the-variants.{Disjoint, Intersects, Within, Contains, EqualTopo, CoveredBy, Covers, ContainsProperly, Touches, Crosses, Overlaps}
+use Rattle.de9im.specs.declared.predicates.Predicate.the-variants.{
+  Disjoint,
+  Intersects,
+  Within,
+  Contains,
+  EqualTopo,
+  CoveredBy,
+  Covers,
+  ContainsProperly,
+  Touches,
+  Crosses,
+  Overlaps,
+}
 use Rattle.de9im.specs.declared.predicates.Filled.{Filled}
 use Rattle.de9im.specs.Bytes.{bytes}
 use Rattle.de9im.specs.Dimension.{dimNo}

@@ -36,7 +36,8 @@ number-small R.NotAPlace = omega arith
 -- a number that none of the table's rows has, as the last arm of the `match` is told
 abbrev NoRow : ℕ → Type 0
 NoRow n =
-    (((((((((((Unit {0} × (n ≡ 0 → ⊥)) × (n ≡ 1 → ⊥)) × (n ≡ 2 → ⊥)) × (n ≡ 3 → ⊥)) × (n ≡ 4 → ⊥)) × (n ≡ 5 → ⊥)) × (n ≡ 6 → ⊥)) × (n ≡ 7 → ⊥)) × (n ≡ 8 → ⊥)) × (n ≡ 9 → ⊥)) × (n ≡ 10 → ⊥))
+    (((((((((((Unit {0} × (n ≡ 0 → ⊥)) × (n ≡ 1 → ⊥)) × (n ≡ 2 → ⊥)) × (n ≡ 3 → ⊥)) × (n ≡ 4 → ⊥)) × (n ≡ 5 → ⊥)) × (n ≡ 6 → ⊥)) ×
+    (n ≡ 7 → ⊥)) × (n ≡ 8 → ⊥)) × (n ≡ 9 → ⊥)) × (n ≡ 10 → ⊥))
 
 pub past : (n : ℕ) → NoRow n → 11 ≤ n
 past zero h = absurd (h .0 .0 .0 .0 .0 .0 .0 .0 .0 .0 .1 refl)

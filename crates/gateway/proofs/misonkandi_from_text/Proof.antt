@@ -12,4 +12,5 @@ misonkandi-from-text-spec =
     (λ c. search needs)
     (λ c κs. search needs)
     (λ c. rw (← c .before .before .before .from-str .ensures, c .enum-told .given .1) (refl, refl))
-    (λ c. rw (← c .before .before .before .before .before .from-str .ensures, c .before .before .parsed .given .1) (c .refusal-word .ensures, refl)))
+    (λ c. rw (← c .before .before .before .before .before .from-str .ensures, c .before .before .parsed .given .1)
+    (c .refusal-word .ensures, refl)))

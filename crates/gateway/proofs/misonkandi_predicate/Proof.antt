@@ -9,7 +9,8 @@ use Rattle.gateway.proofs.misonkandi_predicate.Tie as tie
 returns-2 : tie.Need-returns-2
 returns-2 c =
     let b = c .before .before .before .before .before in
-    let e : numberedOf (b .before .before .before .args .which) ≡ Is (b .p .given .0 .0) = sym (b .before .before .row .ensures) ∙ b .p .given .1 in
+    let e : numberedOf (b .before .before .before .args .which) ≡ Is (b .p .given .0 .0) = sym
+    (b .before .before .row .ensures) ∙ b .p .given .1 in
     rw e (c .with-bit .ensures .0 ∙ rw (add-zero, c .before .ask .ensures, c .before .before .from-cells .ensures) refl)
 
 pub misonkandi-predicate-spec : {M : Type 1} → statement M

@@ -7,7 +7,8 @@ use Rattle.gateway.proofs.misonkandi_set_at_least.Tie as tie
 
 returns : tie.Need-returns
 returns c =
-    let e : codedOf (c .before .before .before .before .args .a) ≡ Bad = sym (c .before .before .before .position-coded .ensures) ∙ c .before .enum-told .given .1 in
+    let e : codedOf (c .before .before .before .before .args .a) ≡ Bad = sym
+    (c .before .before .before .position-coded .ensures) ∙ c .before .enum-told .given .1 in
     rw e (c .refusal-word .ensures, refl)
 
 returns-2 : tie.Need-returns-2
@@ -23,8 +24,17 @@ returns-3 c =
     let b = c .before .before .before .before .before .before .before .before .before .before in
     let s = b .before .before .before .args in
     let e : codedOf (s .a) ≡ Is (b .p .given .0 .0) = sym (b .before .before .position-coded .ensures) ∙ b .p .given .1 in
-    let f : codedOf (s .b) ≡ Is (c .before .before .before .before .before .before .q .given .0 .0) = sym (c .before .before .before .before .before .before .before .before .position-coded2 .ensures) ∙ c .before .before .before .before .before .before .q .given .1 in
-    rw (e, f) (refl, simp (c .to-cells .ensures, c .before .set-at-least .ensures, c .before .before .dimension .ensures, c .before .before .before .from-cells .ensures))
+    let f : codedOf (s .b) ≡ Is (c .before .before .before .before .before .before .q .given .0 .0) = sym
+    (c .before .before .before .before .before .before .before .before .position-coded2 .ensures) ∙ c .before .before .before .before .before .before .q .given .1 in
+    rw (e, f) (
+      refl,
+      simp (
+        c .to-cells .ensures,
+        c .before .set-at-least .ensures,
+        c .before .before .dimension .ensures,
+        c .before .before .before .from-cells .ensures,
+      ),
+    )
 
 pub misonkandi-set-at-least-spec : {M : Type 1} → statement M
 misonkandi-set-at-least-spec =

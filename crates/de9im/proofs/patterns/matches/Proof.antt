@@ -47,7 +47,8 @@ loop-again c =
     let w = c .before .before .before .before .w .given in (
       omega arith,
       b .loop .inv .1,
-      b .loop .inv .2 ∙ from-next (s .pattern .now) (s .t1) (b .before .before .rows .i) (b .loop .j) (omega arith) (omega arith) (omega arith) (w .0 .0) (cc) (sym (c .before .agrees .ensures) ∙ not-false _ (c .if2 .left)),
+      b .loop .inv .2 ∙ from-next (s .pattern .now) (s .t1) (b .before .before .rows .i) (b .loop .j) (omega arith) (omega arith)
+          (omega arith) (w .0 .0) (cc) (sym (c .before .agrees .ensures) ∙ not-false _ (c .if2 .left)),
     )
 
 rows-again : tie.Need-rows-again Inv-loop μ-loop Inv-rows μ-rows
@@ -61,14 +62,16 @@ returns-2 c =
     let s = c .before .before .before .before .args in
     let r = c .before .rows in
     let e : 3 * r .i ≡ 9 = omega arith in
-    r .inv .1 ∙ nine-walked (s .t1) (s .pattern .now) Yes (omega arith) (r .inv .2 ∙ rw e (from-end (s .pattern .now) (s .t1) (omega arith)))
+    r .inv .1 ∙ nine-walked (s .t1) (s .pattern .now) Yes (omega arith)
+    (r .inv .2 ∙ rw e (from-end (s .pattern .now) (s .t1) (omega arith)))
 
 returns-3 : tie.Need-returns-3 Inv-loop μ-loop Inv-rows μ-rows
 returns-3 c =
     let b = c .before .before .before .before .before in
     let s = b .before .before .before .before .before .args in
     nine-walked (s .t1) (s .pattern .now) _ (omega arith)
-    (b .loop .inv .2 ∙ from-bad (s .pattern .now) (s .t1) (b .before .before .rows .i) (b .loop .j) (omega arith) (omega arith) (omega arith) (cc))
+    (b .loop .inv .2 ∙ from-bad (s .pattern .now) (s .t1) (b .before .before .rows .i) (b .loop .j) (omega arith) (omega arith)
+    (omega arith) (cc))
 
 returns-4 : tie.Need-returns-4 Inv-loop μ-loop Inv-rows μ-rows
 returns-4 c =
@@ -76,7 +79,8 @@ returns-4 c =
     let s = b .before .before .before .before .before .args in
     let w = c .before .before .before .before .w .given in
     nine-walked (s .t1) (s .pattern .now) _ (omega arith)
-    (b .loop .inv .2 ∙ from-no (s .pattern .now) (s .t1) (b .before .before .rows .i) (b .loop .j) (omega arith) (omega arith) (omega arith) (w .0 .0) (cc) (sym (c .before .agrees .ensures) ∙ not-true _ (c .if2 .taken)))
+    (b .loop .inv .2 ∙ from-no (s .pattern .now) (s .t1) (b .before .before .rows .i) (b .loop .j) (omega arith) (omega arith)
+    (omega arith) (w .0 .0) (cc) (sym (c .before .agrees .ensures) ∙ not-true _ (c .if2 .taken)))
 
 pub matches-spec : {M : Type 1} → statement M
 matches-spec =

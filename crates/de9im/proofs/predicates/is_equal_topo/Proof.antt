@@ -8,7 +8,12 @@ use Rattle.de9im.proofs.predicates.is_equal_topo.Tie as tie
 
 returns : tie.Need-returns
 unfolding holds agreeAll letterOf
-returns c = simp (c .before .before .before .before .before .before .filled-of .ensures, c .before .before .before .before .before .is-start .ensures, Bool·not-not, and-true)
+returns c = simp (
+  c .before .before .before .before .before .before .filled-of .ensures,
+  c .before .before .before .before .before .is-start .ensures,
+  Bool·not-not,
+  and-true,
+)
 
 pub is-equal-topo-spec : {M : Type 1} → statement M
 is-equal-topo-spec =

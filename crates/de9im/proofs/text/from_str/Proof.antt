@@ -11,7 +11,8 @@ use Rattle.de9im.proofs.text.from_str.Statement.{statement}
 use Rattle.de9im.proofs.text.from_str.Tie as tie
 
 abbrev Inv-loop : tie.InvT-loop
-Inv-loop text cells₀ k₀ cells k = (k ≤ 9) × (length cells ≡ 9) × (take k cells ≡ numbersOf (take k text)) × (badFrom goodByte text 0 ≡ badFrom goodByte text k)
+Inv-loop text cells₀ k₀ cells k = (k ≤ 9) × (length cells ≡ 9) × (take k cells ≡ numbersOf (take k text)) ×
+    (badFrom goodByte text 0 ≡ badFrom goodByte text k)
 
 abbrev μ-loop : tie.MeasureT-loop
 μ-loop text cells₀ k₀ cells k = 9 - k
@@ -29,7 +30,8 @@ returns-2 c =
     let b = c .before .before .before .before .before in
     let t = b .before .before .before .args .text .now in
     let l : cellLetterOf (getD t (b .loop .k) 0) ≡ Bad = cc in
-    sym (answered-bad t (numbersOf t) nineZeros (omega arith) (b .loop .k) (b .loop .inv .3 ∙ bad-here goodByte t (b .loop .k) (omega arith) (ap isGood l)))
+    sym (answered-bad t (numbersOf t) nineZeros (omega arith) (b .loop .k)
+    (b .loop .inv .3 ∙ bad-here goodByte t (b .loop .k) (omega arith) (ap isGood l)))
 
 loop-again : tie.Need-loop-again Inv-loop μ-loop
 loop-again c =
@@ -50,7 +52,8 @@ unfolding readOf
 returns-3 c =
     let t = c .before .before .before .before .args .text .now in
     let l = c .before .loop in
-    let e : l .cells ≡ numbersOf t = mapped-all (λ x. letterNo (cellLetterOf x)) (l .cells) t (l .k) (omega arith) (omega arith) (l .inv .2) in
+    let e : l .cells ≡ numbersOf t = mapped-all (λ x. letterNo (cellLetterOf x)) (l .cells) t (l .k) (omega arith) (omega arith)
+    (l .inv .2) in
     rw e (sym (answered-good t (numbersOf t) nineZeros (omega arith) (l .inv .3 ∙ bad-end goodByte t (l .k) (omega arith))))
 
 pub from-str-spec : {M : Type 1} → statement M

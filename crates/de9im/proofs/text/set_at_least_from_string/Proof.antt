@@ -11,14 +11,16 @@ returns : tie.Need-returns
 returns c =
     let f = c .before .before .before in
     let s = f .before .before .args in
-    let p : readOf (s .text .now) .parsed ≡ Refused (c .enum-told2 .given .0 .0) = sym (ap (λ (x : TextAnswer). x .parsed) (f .from-str .ensures)) ∙ c .enum-told2 .given .1 in
+    let p : readOf (s .text .now) .parsed ≡ Refused (c .enum-told2 .given .0 .0) = sym
+    (ap (λ (x : TextAnswer). x .parsed) (f .from-str .ensures)) ∙ c .enum-told2 .given .1 in
     rw (f .from-str .ensures) (raised-refused (s .cells) (s .text .now) _ p)
 
 returns-2 : tie.Need-returns-2
 returns-2 c =
     let f = c .before .before .before .before in
     let s = f .before .before .args in
-    let p : readOf (s .text .now) .parsed ≡ Accepted = sym (ap (λ (x : TextAnswer). x .parsed) (f .from-str .ensures)) ∙ c .before .enum-told .given .1 in
+    let p : readOf (s .text .now) .parsed ≡ Accepted = sym (ap (λ (x : TextAnswer). x .parsed)
+    (f .from-str .ensures)) ∙ c .before .enum-told .given .1 in
     rw (c .raised .ensures, f .from-str .ensures) (raised-accepted (s .cells) (s .text .now) p)
 
 pub set-at-least-from-string-spec : {M : Type 1} → statement M

@@ -33,4 +33,14 @@ to-text-spec =
     (λ c. search needs)
     (λ c. search needs)
     (λ c κs. search needs)
-    (λ c. simp (c .byte9 .ensures, c .before .before .byte8 .ensures, c .before .before .before .before .byte7 .ensures, c .before .before .before .before .before .before .byte6 .ensures, c .before .before .before .before .before .before .before .before .byte5 .ensures, c .before .before .before .before .before .before .before .before .before .before .byte4 .ensures, c .before .before .before .before .before .before .before .before .before .before .before .before .byte3 .ensures, c .before .before .before .before .before .before .before .before .before .before .before .before .before .before .byte2 .ensures, c .before .before .before .before .before .before .before .before .before .before .before .before .before .before .before .before .byte .ensures)))
+    (λ c. simp (
+      c .byte9 .ensures,
+      c .before .before .byte8 .ensures,
+      c .before .before .before .before .byte7 .ensures,
+      c .before .before .before .before .before .before .byte6 .ensures,
+      c .before .before .before .before .before .before .before .before .byte5 .ensures,
+      c .before .before .before .before .before .before .before .before .before .before .byte4 .ensures,
+      c .before .before .before .before .before .before .before .before .before .before .before .before .byte3 .ensures,
+      c .before .before .before .before .before .before .before .before .before .before .before .before .before .before .byte2 .ensures,
+      c .before .before .before .before .before .before .before .before .before .before .before .before .before .before .before .before .byte .ensures,
+    )))
