@@ -2,3 +2,5 @@
 pub mod LawsSigned
 pub mod LawsFraction
 pub mod LawsDirection
+pub mod LawsTally
+pub mod LawsOrder
