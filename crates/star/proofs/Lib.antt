@@ -4,3 +4,5 @@ pub mod LawsFraction
 pub mod LawsDirection
 pub mod LawsTally
 pub mod LawsOrder
+pub mod LawsLists
+pub mod LawsGather

@@ -4,3 +4,4 @@ pub mod Direction
 pub mod Bundle
 pub mod Tally
 pub mod Star
+pub mod Gather
