@@ -1,0 +1,8 @@
+-- Facts about the definitions of specs/, each stated once.
+pub mod LawsSigned
+pub mod LawsFraction
+pub mod LawsDirection
+pub mod LawsTally
+pub mod LawsOrder
+pub mod LawsLists
+pub mod LawsGather

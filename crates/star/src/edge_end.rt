@@ -1,0 +1,92 @@
+// Edge ends, and the order of their directions around a node: counterclockwise from the positive x-axis.
+use crate::label::Label;
+use crate::topology_position::sides_none;
+use de9im::refusal::Refusal;
+ghost use mathlib.Core.Bool.{cond};
+ghost use mathlib.Core.Path.{_≡_};
+ghost use lib.IntN.{pos, negsuc, _*ℤ_};
+ghost use lib.Signed.{ltZ};
+ghost use Rattle.star.specs.Direction.{quad, quadOf, turnOf, orderOf, byQuadrant};
+
+pub struct Dir {
+    pub dx: i32,
+    pub dy: i32,
+}
+
+pub struct EdgeEnd {
+    pub dir: Dir,
+    pub label: Label,
+}
+
+// How the first of two directions stands to the second.
+pub enum Order {
+    Before,
+    Same,
+    After,
+}
+
+fn west(d: Dir) -> bool
+    ensures { λ r. ⌜ r ≡ ltZ (d .dx) (pos 0) ⌝ }
+{
+    d.dx < 0
+}
+
+fn south(d: Dir) -> bool
+    ensures { λ r. ⌜ r ≡ ltZ (d .dy) (pos 0) ⌝ }
+{
+    d.dy < 0
+}
+
+fn quad_of(x: bool, y: bool) -> u8
+    ensures { λ r. ⌜ r ≡ quad x y ⌝ }
+{
+    if x {
+        if y { 2 } else { 1 }
+    } else {
+        if y { 3 } else { 0 }
+    }
+}
+
+pub fn quadrant(d: Dir) -> u8
+    ensures { λ r. ⌜ r ≡ quadOf d ⌝ }
+{
+    quad_of(west(d), south(d))
+}
+
+fn pick_order(t: bool, a: Order, b: Order) -> Order
+    ensures { λ r. ⌜ r ≡ cond t a b ⌝ }
+{
+    if t { a } else { b }
+}
+
+// One half of the cross product. Parts of 32 bits, so the product always fits.
+fn half_cross(d: Dir, e: Dir) -> i64
+    ensures { λ r. ⌜ r ≡ d .dx *ℤ e .dy ⌝ }
+{
+    (d.dx as i64) * (e.dy as i64)
+}
+
+// The sign of the cross product, by comparing its halves: their difference need not fit.
+fn turn(d: Dir, e: Dir) -> Order
+    ensures { λ r. ⌜ r ≡ turnOf d e ⌝ }
+{
+    let p = half_cross(d, e);
+    let q = half_cross(e, d);
+    pick_order(
+        q < p,
+        Order::Before,
+        pick_order(p < q, Order::After, Order::Same),
+    )
+}
+
+fn by_quadrant(p: u8, q: u8, o: Order) -> Order
+    ensures { λ r. ⌜ r ≡ byQuadrant p q o ⌝ }
+{
+    pick_order(p < q, Order::Before, pick_order(q < p, Order::After, o))
+}
+
+pub fn compare(d: Dir, e: Dir) -> Order
+    ensures { λ r. ⌜ r ≡ orderOf d e ⌝ }
+{
+    by_quadrant(quadrant(d), quadrant(e), turn(d, e))
+}

@@ -1,0 +1,7 @@
+// The first floor: labels, edge ends, bundles, stars and pouring. It carries over topology_position.rs, label.rs,
+// edge_end_bundle.rs and edge_end_bundle_star.rs of the crate geo 0.33.1.
+pub mod edge_end;
+pub mod edge_end_bundle;
+mod gather;
+pub mod label;
+pub mod topology_position;

@@ -1,0 +1,65 @@
+// What one geometry says of an edge: a position on it and, for an area's edge, to its left and to its right.
+use de9im::coordinate_position::Position;
+ghost use mathlib.Core.Bool.{cond};
+ghost use mathlib.Core.Path.{_≡_};
+ghost use Rattle.star.specs.Label.{sideOf, noSides, isNone, isPos, sidesNone};
+
+pub enum Side {
+    On,
+    Left,
+    Right,
+}
+
+// Stands for the crate's `TopologyPosition`; the kind, line or area, is the label's, since both halves have the same.
+pub struct Sides {
+    pub on: Position,
+    pub left: Position,
+    pub right: Position,
+}
+
+// Picks the side: the one place where code goes by the side.
+pub fn position(s: Sides, at: Side) -> Position
+    ensures { λ r. ⌜ r ≡ sideOf at s ⌝ }
+{
+    match at {
+        Side::On => s.on,
+        Side::Left => s.left,
+        Side::Right => s.right,
+    }
+}
+
+pub fn no_sides() -> Sides
+    ensures { λ r. ⌜ r ≡ noSides ⌝ }
+{
+    Sides {
+        on: Position::None,
+        left: Position::None,
+        right: Position::None,
+    }
+}
+
+pub fn is_none(p: Position) -> bool
+    ensures { λ r. ⌜ r ≡ isNone p ⌝ }
+{
+    match p {
+        Position::None => true,
+        Position::Inside => false,
+        Position::OnBoundary => false,
+        Position::Outside => false,
+    }
+}
+
+pub fn pick(t: bool, p: Position, q: Position) -> Position
+    ensures { λ r. ⌜ r ≡ cond t p q ⌝ }
+{
+    if t { p } else { q }
+}
+
+// Neither left nor right is known.
+pub fn sides_none(s: Sides) -> bool
+    ensures { λ r. ⌜ r ≡ sidesNone s ⌝ }
+{
+    let left = s.left;
+    let right = s.right;
+    is_none(left) & is_none(right)
+}
