@@ -1,0 +1,26 @@
+-- Document 01: "Big-endian. Two bytes of length", "dx, dy (four bytes each, signed)".
+use Prim.Native.Nat.{ℕ, _+_, _*_}
+use mathlib.Core.Bool.{cond}
+use mathlib.Core.List.{List}
+use lib.Dec.{ltb}
+use lib.ListN.{getD}
+use lib.IntN.{ℤ, pos, _-ℤ_}
+
+abbrev pub byteAt : List ℕ → ℕ → ℕ
+byteAt s k = getD s k 0
+
+abbrev pub halfOf : ℕ → ℕ → ℕ
+halfOf a b = a * 256 + b
+
+abbrev pub halfAt : List ℕ → ℕ → ℕ
+halfAt s k = halfOf (byteAt s k) (byteAt s (k + 1))
+
+abbrev pub wordOf : ℕ → ℕ → ℕ → ℕ → ℕ
+wordOf a b c d = ((a * 256 + b) * 256 + c) * 256 + d
+
+abbrev pub wordAt : List ℕ → ℕ → ℕ
+wordAt s k = wordOf (byteAt s k) (byteAt s (k + 1)) (byteAt s (k + 2)) (byteAt s (k + 3))
+
+-- two's complement of 32 bits
+abbrev pub signedOf : ℕ → ℤ
+signedOf x = cond (ltb x 2147483648) (pos x) (pos x -ℤ pos 4294967296)

@@ -1,0 +1,42 @@
+// Big-endian numbers in a record.
+ghost use mathlib.Core.Path.{_≡_};
+ghost use Prim.Native.Nat.{_+_, _≤_, _<_};
+ghost use lib.ListN.{length};
+ghost use Rattle.plan.specs.Words.{halfOf, wordOf, wordAt, signedOf};
+
+fn wide(x: u8) -> u64
+    ensures { λ r. ⌜ (r ≡ x) × (r < 256) ⌝ }
+{
+    x as u64
+}
+
+fn half_of(a: u8, b: u8) -> u64
+    ensures { λ r. ⌜ (r ≡ halfOf a b) × (r < 65536) ⌝ }
+{
+    wide(a) * 256 + wide(b)
+}
+
+fn word_of(a: u8, b: u8, c: u8, d: u8) -> u64
+    ensures { λ r. ⌜ (r ≡ wordOf a b c d) × (r < 4294967296) ⌝ }
+{
+    ((wide(a) * 256 + wide(b)) * 256 + wide(c)) * 256 + wide(d)
+}
+
+fn word_at(s: &[u8], at: usize) -> u64
+    requires { ⌜ at + 4 ≤ length (now s) ⌝ }
+    ensures { λ r. ⌜ (r ≡ wordAt (now (s .entry)) at) × (r < 4294967296) ⌝ }
+{
+    word_of(s[at], s[at + 1], s[at + 2], s[at + 3])
+}
+
+// Two's complement.
+fn signed_of(x: u64) -> i32
+    requires { ⌜ x < 4294967296 ⌝ }
+    ensures { λ r. ⌜ r ≡ signedOf x ⌝ }
+{
+    if x < 2147483648 {
+        x as i32
+    } else {
+        (x as i64 - 4294967296) as i32
+    }
+}
