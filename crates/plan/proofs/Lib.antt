@@ -1,2 +1,3 @@
 -- Facts about the definitions of specs/, each stated once.
 pub mod LawsWords
+pub mod LawsReport

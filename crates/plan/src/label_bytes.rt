@@ -1,9 +1,10 @@
 // A label's seven bytes: kind, then on, left, right for A, then for B. Refused in order: kind (7), codes (6), sides (7).
-use de9im::coordinate_position::{Coded, position_coded};
+use de9im::coordinate_position::Coded;
+use de9im::coordinate_position::position_coded;
 use de9im::refusal::Refusal;
 use star::label::Label;
-use star::topology_position::{Sides, sides_none};
-
+use star::topology_position::Sides;
+use star::topology_position::sides_none;
 ghost use mathlib.Core.Path.{_≡_};
 ghost use Prim.Native.Nat.{_+_, _≤_};
 ghost use lib.ListN.{length};

@@ -1,3 +1,12 @@
 // Plan records and stored reports: from bytes to nine letters, over the star.
 pub mod label_bytes;
+pub mod report;
 pub mod words;
+
+use de9im::refusal::Refusal;
+
+// What a call on bytes answers: how many it used, or why it refused.
+pub enum Answer {
+    Used(usize),
+    Refused(Refusal),
+}

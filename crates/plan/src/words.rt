@@ -10,10 +10,10 @@ fn wide(x: u8) -> u64
     x as u64
 }
 
-fn half_of(a: u8, b: u8) -> u64
+pub(crate) fn half_of(a: u8, b: u8) -> usize
     ensures { λ r. ⌜ (r ≡ halfOf a b) × (r < 65536) ⌝ }
 {
-    wide(a) * 256 + wide(b)
+    (wide(a) * 256 + wide(b)) as usize
 }
 
 fn word_of(a: u8, b: u8, c: u8, d: u8) -> u64

@@ -10,7 +10,7 @@ returns-2 : tie.Need-returns-2
 returns-2 c = rw (le-ltb _ _ (c .before .before .if1 .left), c .enum-told .given .1)
 
 returns-3 : tie.Need-returns-3
-returns-3 c = 
+returns-3 c =
     let p = c .before .before .before in
     rw (le-ltb _ _ (p .before .before .if1 .left), p .p .given .1, c .enum-told2 .given .1)
 

@@ -7,11 +7,11 @@ use Rattle.plan.proofs.words.signed_of.Statement.{statement}
 use Rattle.plan.proofs.words.signed_of.Tie as tie
 
 sub-result : tie.Need-sub-result
-sub-result c = 
+sub-result c =
     rw (read-small (c .before .args .x) (c .before .pre)) (wider (below-fits (c .before .args .x) (c .before .pre) (c .if1 .left)))
 
 cast-result-3 : tie.Need-cast-result-3
-cast-result-3 c = 
+cast-result-3 c =
     let f = below-fits (c .before .args .x) (c .before .pre) (c .if1 .left) in
     rw (read-small (c .before .args .x) (c .before .pre), toZ-ofZ (wider f)) f
 
@@ -19,7 +19,7 @@ returns : tie.Need-returns
 returns c = rw (toZ-pos w32 (c .if1 .taken), lt-ltb _ _ (c .if1 .taken))
 
 returns-2 : tie.Need-returns-2
-returns-2 c = 
+returns-2 c =
     let f = below-fits (c .before .args .x) (c .before .pre) (c .if1 .left) in
     rw (read-small (c .before .args .x) (c .before .pre), toZ-ofZ (wider f), toZ-ofZ f, le-ltb _ _ (c .if1 .left))
 
