@@ -1,3 +1,4 @@
 -- Facts about the definitions of specs/, each stated once.
 pub mod LawsWords
 pub mod LawsReport
+pub mod LawsReportTrip
