@@ -6,3 +6,4 @@ pub mod LawsTally
 pub mod LawsOrder
 pub mod LawsLists
 pub mod LawsGather
+pub mod LawsWalk
