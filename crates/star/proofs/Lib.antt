@@ -7,3 +7,5 @@ pub mod LawsOrder
 pub mod LawsLists
 pub mod LawsGather
 pub mod LawsWalk
+pub mod LawsEnds
+pub mod LawsStar

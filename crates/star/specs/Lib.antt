@@ -7,3 +7,5 @@ pub mod Star
 pub mod Gather
 pub mod Completing
 pub mod Walking
+pub mod Ends
+pub mod Calls

@@ -46,3 +46,7 @@ seenOf f area s =
 
 abbrev pub lookLabel : Looked → Label → Looked
 lookLabel w l = record { a = seenOf (w .a) (l .area) (l .a); b = seenOf (w .b) (l .area) (l .b) }
+
+-- some area bundle has a left, and some has a right but no left
+abbrev pub foundMissing : Found → Bool
+foundMissing f = not (isNone (f .start)) && f .alone

@@ -1,4 +1,8 @@
 // A star: the bundles around a node in counterclockwise order, completed for A and for B.
+use crate::edge_end::Checked;
+use crate::edge_end::EdgeEnd;
+use crate::edge_end::check;
+use crate::gather::joined_labels;
 use crate::label::Geometry;
 use crate::label::Label;
 use crate::label::blank;
@@ -9,14 +13,17 @@ use crate::topology_position::is_none;
 use crate::topology_position::or_else;
 use crate::topology_position::pick;
 use de9im::coordinate_position::Position;
+use de9im::refusal::Refusal;
 ghost use mathlib.Core.Bool.{cond, not, _&&_, _||_};
 ghost use mathlib.Core.Path.{_≡_};
-ghost use mathlib.Core.List.{_++_, map};
+ghost use mathlib.Core.List.{List, _++_, map};
 ghost use Prim.Native.Nat.{_≤_};
-ghost use lib.ListN.{take, drop};
+ghost use lib.ListN.{length, take, drop};
 ghost use Rattle.star.specs.Label.{isNone, orElse, halfOf};
 ghost use Rattle.star.specs.Completing.{walkSides, walkNext, fillSides, fillLabel, collapses, restOf, lastOf};
-ghost use Rattle.star.specs.Walking.{walkLabel, nextLabel, walkBoth, seenOf, lookLabel, lookedOf};
+ghost use Rattle.star.specs.Gather.{padded, Sound};
+ghost use Rattle.star.specs.Calls.{refusedStar, completedStar, starOf, starCall};
+ghost use Rattle.star.specs.Walking.{walkLabel, nextLabel, walkBoth, seenOf, lookLabel, lookedOf, foundMissing};
 
 // What is current in the walk, for each geometry.
 pub struct Current {
@@ -214,4 +221,79 @@ fn rest(l: Label, g: Geometry, p: Position) -> Position
         Position::Outside,
         or_else(p, Position::Outside),
     )
+}
+
+// For one geometry, some area bundle has a left and some has a right but no left.
+fn misses(f: Found) -> bool
+    ensures { λ r. ⌜ r ≡ foundMissing f ⌝ }
+{
+    let start = f.start;
+    !is_none(start) & f.alone
+}
+
+pub enum StarAnswer {
+    Completed,
+    Refused(Refusal),
+}
+
+// The answer to a star, with its completed labels in order beside it: blanks past the count.
+pub struct Labeled {
+    pub answer: StarAnswer,
+    pub labels: [Label; 32],
+    pub count: usize,
+}
+
+fn refused(r: Refusal) -> Labeled
+    ensures { λ s. ⌜ s ≡ refusedStar r ⌝ }
+{
+    Labeled {
+        answer: StarAnswer::Refused(r),
+        labels: [blank(); 32],
+        count: 0,
+    }
+}
+
+// Completes n labels that stand in order, with blanks behind them.
+fn completed(ls: [Label; 32], n: usize, area_a: Position, area_b: Position) -> Labeled
+    requires { ⌜ (n ≤ 32) × (ls ≡ padded (take n ls)) ⌝ }
+    ensures { λ r. ⌜ r ≡ completedStar (take n ls) («area_a») («area_b») ⌝ }
+{
+    let w = look(ls, n);
+    let fa = w.a;
+    let fb = w.b;
+    if misses(fa) | misses(fb) {
+        return refused(Refusal::MissingLeft);
+    }
+    let a = fa.start;
+    let b = fb.start;
+    let walk = walked(ls, n, Current { a, b });
+    let end = last(walk, n);
+    let ra = rest(end, Geometry::A, area_a);
+    let rb = rest(end, Geometry::B, area_b);
+    Labeled {
+        answer: StarAnswer::Completed,
+        labels: filled(walk, n, ra, rb),
+        count: n,
+    }
+}
+
+// The core of a star call, for ends that are checked: at most 32, and no direction 0,0.
+pub fn star_of(ends: [EdgeEnd; 32], n: usize, area_a: Position, area_b: Position) -> Labeled
+    requires { ⌜ Sound ends n ⌝ }
+    ensures { λ r. ⌜ r ≡ starOf (take n ends) («area_a») («area_b») ⌝ }
+{
+    let j = joined_labels(ends, n);
+    let ls = j.labels;
+    completed(ls, j.count, area_a, area_b)
+}
+
+// A star call: checks the ends as a record does, sorts them into bundles and completes their labels.
+pub fn star(ends: [EdgeEnd; 32], count: usize, area_a: Position, area_b: Position) -> Labeled
+    ensures { λ r. ⌜ r ≡ starCall ends count («area_a») («area_b») ⌝ }
+{
+    let c = check(ends, count);
+    match c {
+        Checked::Fine => star_of(ends, count, area_a, area_b),
+        Checked::Refused(r) => refused(r),
+    }
 }
