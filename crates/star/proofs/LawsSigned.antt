@@ -11,6 +11,7 @@ use lib.Signed.{mag, natAbs-le, ltZ}
 use mir.Syntax.{w32, w64}
 use mir.Val.{SFits, ofZ}
 use mir.Facts.{sfits-widen}
+use Rattle.star.specs.Direction.{isZero}
 
 abs-neg : (n : ℕ) → natAbs (negℤ (pos n)) ≡ n
 abs-neg zero = refl
@@ -73,3 +74,9 @@ sign-below (pos a) (negsuc n) = le-ltb (a + suc n) 0 (omega arith)
 sign-below (negsuc a) (pos zero) = below 0 (suc a) ∙ lt-ltb 0 (suc a) (omega arith)
 sign-below (negsuc a) (pos (suc n)) = refl
 sign-below (negsuc a) (negsuc n) = below (suc n) (suc a) ∙ agree (suc n) (suc a) n a (λ p. omega arith) (λ p. omega arith)
+
+-- a number of 32 bits is 0 exactly where its bits are
+pub zero-bits : (z : ℤ) → SFits w32 z → eqb (ofZ w32 z) 0 ≡ isZero z
+zero-bits (pos zero) f = refl
+zero-bits (pos (suc n)) f = ne-eqb (suc n) 0 (λ e. omega arith)
+zero-bits (negsuc n) f = ne-eqb (4294967296 - suc n) 0 (λ e. omega arith)

@@ -6,3 +6,6 @@ pub mod LawsTally
 pub mod LawsOrder
 pub mod LawsLists
 pub mod LawsGather
+pub mod LawsWalk
+pub mod LawsEnds
+pub mod LawsStar

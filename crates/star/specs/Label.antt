@@ -1,6 +1,6 @@
 -- Document 01: "Labels. Per geometry an on position and, for an area label, left and right. Both halves have the same kind",
 -- and "a line label with a side" of refusal 7.
-use mathlib.Core.Bool.{Bool, true, false, _&&_}
+use mathlib.Core.Bool.{Bool, true, false, cond, _&&_}
 use Rattle.de9im.specs.declared.«coordinate_position».Position.{Position}
 use Rattle.de9im.specs.declared.«coordinate_position».Position.the-variants.{None, Inside, OnBoundary, Outside}
 use Rattle.star.specs.declared.«topology_position».Side.{Side}
@@ -24,6 +24,10 @@ isNone None = true
 isNone Inside = false
 isNone OnBoundary = false
 isNone Outside = false
+
+-- the first, or the second where the first is none
+abbrev pub orElse : Position → Position → Position
+orElse p q = cond (isNone p) q p
 
 -- two positions are one
 abbrev pub isPos : Position → Position → Bool

@@ -5,3 +5,7 @@ pub mod Bundle
 pub mod Tally
 pub mod Star
 pub mod Gather
+pub mod Completing
+pub mod Walking
+pub mod Ends
+pub mod Calls

@@ -6,7 +6,8 @@ ghost use mathlib.Core.Bool.{cond};
 ghost use mathlib.Core.Path.{_≡_};
 ghost use lib.IntN.{pos, negsuc, _*ℤ_};
 ghost use lib.Signed.{ltZ};
-ghost use Rattle.star.specs.Direction.{quad, quadOf, turnOf, orderOf, byQuadrant};
+ghost use Rattle.star.specs.Direction.{quad, quadOf, turnOf, orderOf, byQuadrant, zeroDir};
+ghost use Rattle.star.specs.Ends.{far, badDir, lineWithSide, faultOf, checkedOf};
 
 pub struct Dir {
     pub dx: i32,
@@ -89,4 +90,84 @@ pub fn compare(d: Dir, e: Dir) -> Order
     ensures { λ r. ⌜ r ≡ orderOf d e ⌝ }
 {
     by_quadrant(quadrant(d), quadrant(e), turn(d, e))
+}
+
+// Whether ends may be taken, or the first thing that is wrong with them.
+pub enum Checked {
+    Fine,
+    Refused(Refusal),
+}
+
+fn zero(d: Dir) -> bool
+    ensures { λ r. ⌜ r ≡ zeroDir d ⌝ }
+{
+    (d.dx == 0) & (d.dy == 0)
+}
+
+fn far_x(d: Dir) -> bool
+    ensures { λ r. ⌜ r ≡ far (d .dx) ⌝ }
+{
+    (2000000000 < d.dx) | (d.dx < -2000000000)
+}
+
+fn far_y(d: Dir) -> bool
+    ensures { λ r. ⌜ r ≡ far (d .dy) ⌝ }
+{
+    (2000000000 < d.dy) | (d.dy < -2000000000)
+}
+
+fn bad_dir(d: Dir) -> bool
+    ensures { λ r. ⌜ r ≡ badDir d ⌝ }
+{
+    zero(d) | (far_x(d) | far_y(d))
+}
+
+fn line_with_side(l: Label) -> bool
+    ensures { λ r. ⌜ r ≡ lineWithSide l ⌝ }
+{
+    let a = l.a;
+    let b = l.b;
+    !l.area & !(sides_none(a) & sides_none(b))
+}
+
+fn pick_checked(t: bool, a: Checked, b: Checked) -> Checked
+    ensures { λ r. ⌜ r ≡ cond t a b ⌝ }
+{
+    if t { a } else { b }
+}
+
+// One end: its direction, then its sides.
+pub fn fault(e: EdgeEnd) -> Checked
+    ensures { λ r. ⌜ r ≡ faultOf e ⌝ }
+{
+    let d = e.dir;
+    let l = e.label;
+    pick_checked(
+        bad_dir(d),
+        Checked::Refused(Refusal::Direction),
+        pick_checked(
+            line_with_side(l),
+            Checked::Refused(Refusal::LabelKind),
+            Checked::Fine,
+        ),
+    )
+}
+
+// The count, then each end in turn.
+pub fn check(ends: [EdgeEnd; 32], count: usize) -> Checked
+    ensures { λ r. ⌜ r ≡ checkedOf ends count ⌝ }
+{
+    if 32 < count {
+        return Checked::Refused(Refusal::Ends);
+    }
+    let mut i: usize = 0;
+    while i < count {
+        let e = ends[i];
+        let c = fault(e);
+        let Checked::Fine = c else {
+            return c;
+        };
+        i += 1;
+    }
+    Checked::Fine
 }

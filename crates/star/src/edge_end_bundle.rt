@@ -1,12 +1,18 @@
 // A bundle: the edge ends at one node with one direction, joined into one label by counting their positions.
+use crate::edge_end::Checked;
+use crate::edge_end::EdgeEnd;
+use crate::edge_end::check;
 use crate::label::Label;
 use crate::topology_position::Sides;
 use crate::topology_position::pick;
 use de9im::coordinate_position::Position;
+use de9im::refusal::Refusal;
 ghost use mathlib.Core.Bool.{cond};
 ghost use mathlib.Core.Path.{_≡_};
 ghost use Prim.Native.Nat.{_≤_};
-ghost use Rattle.star.specs.Bundle.{bit, onFrom, sideFrom};
+ghost use lib.ListN.{take};
+ghost use Rattle.star.specs.Bundle.{bit, onFrom, sideFrom, joinOf};
+ghost use Rattle.star.specs.Calls.{bundledOf};
 ghost use Rattle.star.specs.Tally.{Small, onMark, sideMark, markOf, added, half, labelOf};
 
 // The counts of a bundle. Per geometry six digits of base 1024, the least first: on the boundary, on inside, left inside, left
@@ -137,5 +143,37 @@ pub fn label_of(t: Tally) -> Label
         area: 0 < t.areas,
         a,
         b,
+    }
+}
+
+// The label of the first n ends, directions not compared.
+fn join(ends: [EdgeEnd; 32], n: usize) -> Label
+    requires { ⌜ n ≤ 32 ⌝ }
+    ensures { λ r. ⌜ r ≡ joinOf (take n ends) ⌝ }
+{
+    let mut t = no_tally();
+    let mut i: usize = 0;
+    while i < n {
+        let e = ends[i];
+        let l = e.label;
+        t = add(t, l);
+        i += 1;
+    }
+    label_of(t)
+}
+
+pub enum Bundled {
+    Joined(Label),
+    Refused(Refusal),
+}
+
+// One bundle of all the ends, once they are checked. 9 can't arise: nothing is completed.
+pub fn bundle(ends: [EdgeEnd; 32], count: usize) -> Bundled
+    ensures { λ r. ⌜ r ≡ bundledOf ends count ⌝ }
+{
+    let c = check(ends, count);
+    match c {
+        Checked::Fine => Bundled::Joined(join(ends, count)),
+        Checked::Refused(r) => Bundled::Refused(r),
     }
 }

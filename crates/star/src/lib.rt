@@ -2,6 +2,7 @@
 // edge_end_bundle.rs and edge_end_bundle_star.rs of the crate geo 0.33.1.
 pub mod edge_end;
 pub mod edge_end_bundle;
-mod gather;
+pub mod edge_end_bundle_star;
+pub mod gather;
 pub mod label;
 pub mod topology_position;

@@ -2,7 +2,7 @@
 use de9im::coordinate_position::Position;
 ghost use mathlib.Core.Bool.{cond};
 ghost use mathlib.Core.Path.{_≡_};
-ghost use Rattle.star.specs.Label.{sideOf, noSides, isNone, isPos, sidesNone};
+ghost use Rattle.star.specs.Label.{sideOf, noSides, isNone, isPos, orElse, sidesNone};
 
 pub enum Side {
     On,
@@ -53,6 +53,24 @@ pub fn pick(t: bool, p: Position, q: Position) -> Position
     ensures { λ r. ⌜ r ≡ cond t p q ⌝ }
 {
     if t { p } else { q }
+}
+
+// The first, or the second where the first is none.
+pub fn or_else(p: Position, q: Position) -> Position
+    ensures { λ r. ⌜ r ≡ orElse p q ⌝ }
+{
+    pick(is_none(p), q, p)
+}
+
+pub fn is_boundary(p: Position) -> bool
+    ensures { λ r. ⌜ r ≡ isPos p Position.OnBoundary ⌝ }
+{
+    match p {
+        Position::None => false,
+        Position::Inside => false,
+        Position::OnBoundary => true,
+        Position::Outside => false,
+    }
 }
 
 // Neither left nor right is known.

@@ -1,0 +1,74 @@
+-- Checking each end in turn, and what ends that pass are known to be. Assumes nothing.
+use Prim.Native.Nat.{ℕ, zero, suc, _+_, _≤_, _<_}
+use mathlib.Core.Path.{_≡_, refl, sym, ap, _∙_}
+use mathlib.Core.Bool.{Bool, true, false, cond, _||_}
+use mathlib.Core.List.{List, [], _∷_}
+use native.Mathlib.Omega.{arith}
+use borrow.Author.Tests.{ltb-false}
+use lib.Dec.{ltb}
+use lib.ListN.{length, take, drop, getD}
+use lib.Seq.{getD-take, length-take-le}
+use Rattle.de9im.specs.declared.refusal.Refusal.{Refusal}
+use Rattle.de9im.specs.declared.refusal.Refusal.the-variants.{Ends, LabelKind, Direction}
+use Rattle.star.specs.declared.«edge_end».EdgeEnd.{EdgeEnd}
+use Rattle.star.specs.declared.«edge_end».Checked.{Checked}
+use Rattle.star.specs.declared.«edge_end».Checked.the-variants.{Fine, Refused}
+use Rattle.star.specs.Direction.{zeroDir}
+use Rattle.star.specs.Ends.{far, badDir, lineWithSide, faultOf, orFault, firstFault, checkedOf}
+use Rattle.star.specs.Gather.{noEnd, dirAt, Sound}
+use Rattle.star.proofs.LawsLists.{rest, none-left}
+use Rattle.star.proofs.LawsOrder.{All, none, more, all-at}
+
+abbrev pub faultsFrom : List EdgeEnd → ℕ → ℕ → Checked
+faultsFrom ends n i = firstFault (drop i (take n ends))
+
+module _ (ends : List EdgeEnd) (n i : ℕ) (h : i < n) (k : n ≤ length ends) where
+  pub fault-next : faultOf (getD ends i noEnd) ≡ Fine → faultsFrom ends n i ≡ faultsFrom ends n (i + 1)
+  unfolding firstFault
+  fault-next e = rw (rest noEnd ends i n h k, e) refl
+
+  pub fault-here : (r : Refusal) → faultOf (getD ends i noEnd) ≡ Refused r → faultsFrom ends n i ≡ Refused r
+  unfolding firstFault
+  fault-here r e = rw (rest noEnd ends i n h k, e) refl
+
+pub fault-end : (ends : List EdgeEnd) (n i : ℕ) → n ≤ i → n ≤ length ends → faultsFrom ends n i ≡ Fine
+unfolding firstFault
+fault-end ends n i h k = rw (none-left noEnd ends i n h k) refl
+
+never : {A : Type 0} {r : Refusal} → Refused r ≡ Fine → A
+never e = let z : _≡_ {A = ℕ} 0 1 = cc in absurd (omega arith)
+
+all-fine : (es : List EdgeEnd) → firstFault es ≡ Fine → All (λ e. faultOf e ≡ Fine) es
+unfolding firstFault
+all-fine [] h = none
+all-fine (e ∷ es) h = go (faultOf e) refl h (λ k. all-fine es k)
+  where
+    go : (c : Checked) → faultOf e ≡ c → orFault c (firstFault es) ≡ Fine → (firstFault es ≡ Fine → All (λ x. faultOf x ≡ Fine) es) → All (λ x. faultOf x ≡ Fine) (e ∷ es)
+    go Fine f k rec = more f (rec k)
+    go (Refused r) f k rec = never k
+
+or-left : (a b : Bool) → (a || b) ≡ false → a ≡ false
+or-left false b e = refl
+or-left true b e = e
+
+fine-dir : (e : EdgeEnd) → faultOf e ≡ Fine → zeroDir (e .dir) ≡ false
+fine-dir e h = go (badDir (e .dir)) refl
+  where
+    go : (b : Bool) → badDir (e .dir) ≡ b → zeroDir (e .dir) ≡ false
+    go true k = never {r = Direction} (sym (rw k refl) ∙ h)
+    go false k = or-left (zeroDir (e .dir)) (far (e .dir .dx) || far (e .dir .dy)) k
+
+-- ends that pass are at most 32, and no direction is 0, 0
+pub checked-sound : (ends : List EdgeEnd) (n : ℕ) → length ends ≡ 32 → checkedOf ends n ≡ Fine → Sound ends n
+unfolding checkedOf
+checked-sound ends n len h = go (ltb 32 n) refl
+  where
+    go : (b : Bool) → ltb 32 n ≡ b → Sound ends n
+    go true k = never {r = Ends} (sym (rw k refl) ∙ h)
+    go false k =
+        let f : n ≤ 32 = ltb-false 32 n k in
+        let a = all-fine (take n ends) (sym (rw k refl) ∙ h) in
+        record {
+          few = f;
+          sound = λ j p. rw (getD-take n ends j noEnd p) at (fine-dir (getD (take n ends) j noEnd) (all-at noEnd a j (omega (arith, length-take-le n ends (omega arith)))));
+        }
