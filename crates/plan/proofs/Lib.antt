@@ -2,3 +2,4 @@
 pub mod LawsWords
 pub mod LawsReport
 pub mod LawsReportTrip
+pub mod LawsEnds

@@ -2,3 +2,4 @@
 pub mod Words
 pub mod LabelBytes
 pub mod Report
+pub mod EndBytes

@@ -22,7 +22,7 @@ fn word_of(a: u8, b: u8, c: u8, d: u8) -> u64
     ((wide(a) * 256 + wide(b)) * 256 + wide(c)) * 256 + wide(d)
 }
 
-fn word_at(s: &[u8], at: usize) -> u64
+pub(crate) fn word_at(s: &[u8], at: usize) -> u64
     requires { ⌜ at + 4 ≤ length (now s) ⌝ }
     ensures { λ r. ⌜ (r ≡ wordAt (now (s .entry)) at) × (r < 4294967296) ⌝ }
 {
@@ -30,7 +30,7 @@ fn word_at(s: &[u8], at: usize) -> u64
 }
 
 // Two's complement.
-fn signed_of(x: u64) -> i32
+pub(crate) fn signed_of(x: u64) -> i32
     requires { ⌜ x < 4294967296 ⌝ }
     ensures { λ r. ⌜ r ≡ signedOf x ⌝ }
 {

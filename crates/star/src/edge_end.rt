@@ -116,7 +116,7 @@ fn far_y(d: Dir) -> bool
     (2000000000 < d.dy) | (d.dy < -2000000000)
 }
 
-fn bad_dir(d: Dir) -> bool
+pub fn bad_dir(d: Dir) -> bool
     ensures { λ r. ⌜ r ≡ badDir d ⌝ }
 {
     zero(d) | (far_x(d) | far_y(d))
