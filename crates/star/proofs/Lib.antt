@@ -9,3 +9,4 @@ pub mod LawsGather
 pub mod LawsWalk
 pub mod LawsEnds
 pub mod LawsStar
+pub mod LawsPouring

@@ -9,3 +9,4 @@ pub mod Completing
 pub mod Walking
 pub mod Ends
 pub mod Calls
+pub mod Pouring

@@ -5,4 +5,5 @@ pub mod edge_end_bundle;
 pub mod edge_end_bundle_star;
 pub mod gather;
 pub mod label;
+pub mod pouring;
 pub mod topology_position;

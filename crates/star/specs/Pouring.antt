@@ -1,0 +1,30 @@
+-- Document 01: "Pouring. A node raises (on A, on B) to 0. A label raises (on A, on B) to 1 and, if an area, (left A, left B)
+-- and (right A, right B) to 2. A none skips its cell."
+use mathlib.Core.Bool.{cond}
+use mathlib.Core.List.{List, [], _∷_}
+use Rattle.de9im.specs.declared.dimensions.Dimensions.{Dimensions}
+use Rattle.de9im.specs.declared.dimensions.Dimensions.the-variants.{ZeroDimensional, OneDimensional, TwoDimensional}
+use Rattle.de9im.specs.declared.«coordinate_position».Position.{Position}
+use Rattle.de9im.specs.Matrix.{Matrix, atLeastOf}
+use Rattle.star.specs.declared.«topology_position».Side.{Side}
+use Rattle.star.specs.declared.«topology_position».Side.the-variants.{On, Left, Right}
+use Rattle.star.specs.declared.label.Label.{Label}
+use Rattle.star.specs.Label.{sideOf}
+
+unfoldable pub pourNode : Matrix → Position → Position → Matrix
+pourNode m a b = atLeastOf m a b ZeroDimensional
+
+-- one side of a label, both halves
+abbrev pub pourSide : Side → Dimensions → Label → Matrix → Matrix
+pourSide s d l m = atLeastOf m (sideOf s (l .a)) (sideOf s (l .b)) d
+
+unfoldable pub pourLabel : Matrix → Label → Matrix
+pourLabel m l =
+    cond (l .area)
+    (pourSide Right TwoDimensional l (pourSide Left TwoDimensional l (pourSide On OneDimensional l m)))
+    (pourSide On OneDimensional l m)
+
+-- all labels of a star, in order
+unfoldable pub pourLabels : Matrix → List Label → Matrix
+pourLabels m [] = m
+pourLabels m (l ∷ ls) = pourLabels (pourLabel m l) ls

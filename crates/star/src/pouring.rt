@@ -1,0 +1,55 @@
+// Pouring: what a node and what the labels around it raise in the matrix. A none skips its cell.
+use crate::label::Label;
+use crate::topology_position::Side;
+use crate::topology_position::position;
+use de9im::coordinate_position::Position;
+use de9im::dimensions::Dimensions;
+use de9im::intersection_matrix::IntersectionMatrix;
+use de9im::intersection_matrix::set_at_least_if_in_both;
+ghost use mathlib.Core.Path.{_≡_};
+ghost use Prim.Native.Nat.{_≤_};
+ghost use lib.ListN.{take};
+ghost use Rattle.star.specs.Pouring.{pourNode, pourSide, pourLabel, pourLabels};
+
+// A node raises (on A, on B) to 0.
+pub fn pour_node(m: IntersectionMatrix, a: Position, b: Position) -> IntersectionMatrix
+    ensures { λ r. ⌜ r ≡ pourNode m a b ⌝ }
+{
+    set_at_least_if_in_both(m, a, b, Dimensions::ZeroDimensional)
+}
+
+fn pour_side(m: IntersectionMatrix, l: Label, s: Side, d: Dimensions) -> IntersectionMatrix
+    ensures { λ r. ⌜ r ≡ pourSide s d l m ⌝ }
+{
+    let a = l.a;
+    let b = l.b;
+    set_at_least_if_in_both(m, position(a, s), position(b, s), d)
+}
+
+// A label raises (on A, on B) to 1 and, if an area, (left A, left B) and (right A, right B) to 2.
+pub fn pour_label(m: IntersectionMatrix, l: Label) -> IntersectionMatrix
+    ensures { λ r. ⌜ r ≡ pourLabel m l ⌝ }
+{
+    let on = pour_side(m, l, Side::On, Dimensions::OneDimensional);
+    if !l.area {
+        return on;
+    }
+    let left = pour_side(on, l, Side::Left, Dimensions::TwoDimensional);
+    pour_side(left, l, Side::Right, Dimensions::TwoDimensional)
+}
+
+// All labels of a star, in order.
+pub fn pour_labels(m: IntersectionMatrix, labels: [Label; 32], n: usize) -> IntersectionMatrix
+    requires { ⌜ n ≤ 32 ⌝ }
+    ensures { λ r. ⌜ r ≡ pourLabels m (take n labels) ⌝ }
+{
+    let mut out = m;
+    let mut i: usize = 0;
+    while i < n {
+        let l = labels[i];
+        let next = pour_label(out, l);
+        out = next;
+        i += 1;
+    }
+    out
+}
