@@ -3,3 +3,4 @@ pub mod Words
 pub mod LabelBytes
 pub mod Report
 pub mod EndBytes
+pub mod Record

@@ -21,7 +21,7 @@ pub enum LabelRead {
     Bad(Refusal),
 }
 
-fn coded(b: u8) -> Coded
+pub(crate) fn coded(b: u8) -> Coded
     ensures { λ r. ⌜ r ≡ codedOf b ⌝ }
 {
     position_coded(b as u32)

@@ -1,6 +1,7 @@
 // Plan records and stored reports: from bytes to nine letters, over the star.
 pub mod end_bytes;
 pub mod label_bytes;
+pub mod record;
 pub mod report;
 pub mod words;
 

@@ -1,0 +1,120 @@
+// Plan records: kind 1, a node with its ends, and kind 2, an isolated edge, checked in document 01's order and poured.
+use crate::Answer;
+use crate::end_bytes::EndsAnswer;
+use crate::end_bytes::ends_at;
+use crate::label_bytes::LabelRead;
+use crate::label_bytes::coded;
+use crate::label_bytes::label_at;
+use crate::words::half_of;
+use crate::words::wide;
+use de9im::cells::Cells;
+use de9im::cells::from_cells;
+use de9im::cells::to_cells;
+use de9im::coordinate_position::Coded;
+use de9im::coordinate_position::Position;
+use de9im::intersection_matrix::IntersectionMatrix;
+use de9im::refusal::Refusal;
+use star::edge_end::EdgeEnd;
+use star::edge_end_bundle_star::StarAnswer;
+use star::edge_end_bundle_star::star_of;
+use star::pouring::pour_label;
+use star::pouring::pour_labels;
+use star::pouring::pour_node;
+use star::topology_position::is_none;
+ghost use mathlib.Core.Path.{_≡_};
+ghost use Prim.Native.Nat.{_+_, _≤_, _<_};
+ghost use lib.ListN.{length, take};
+ghost use Rattle.star.specs.Gather.{Sound};
+ghost use Rattle.plan.specs.EndBytes.{good};
+ghost use Rattle.plan.specs.Words.{halfAt};
+ghost use Rattle.plan.specs.Record.{refusedAs, acceptedAs, edgeWith, edgeOf, nodeWith, nodeAt, withEnds, nodeOf, recordOf};
+
+// The answer to a record's bytes, with the matrix beside it: a refusal hands the given numbers back as they came.
+pub struct RecordAnswer {
+    pub answer: Answer,
+    pub cells: Cells,
+}
+
+// Where a node lies: its position in A and in B, and its area positions, none for no area.
+pub struct Node {
+    pub a: Position,
+    pub b: Position,
+    pub p: Position,
+    pub q: Position,
+}
+
+pub enum NodeRead {
+    Is(Node),
+    Bad,
+}
+
+fn refused(r: Refusal, cells: Cells) -> RecordAnswer
+    ensures { λ x. ⌜ x ≡ refusedAs r cells ⌝ }
+{
+    RecordAnswer {
+        answer: Answer::Refused(r),
+        cells,
+    }
+}
+
+fn accepted(used: usize, m: IntersectionMatrix) -> RecordAnswer
+    ensures { λ x. ⌜ x ≡ acceptedAs used m ⌝ }
+{
+    RecordAnswer {
+        answer: Answer::Used(used),
+        cells: to_cells(m),
+    }
+}
+
+fn edge_with(cells: Cells, l: LabelRead) -> RecordAnswer
+    ensures { λ x. ⌜ x ≡ edgeWith cells l ⌝ }
+{
+    match l {
+        LabelRead::Is(x) => accepted(11, pour_label(from_cells(cells), x)),
+        LabelRead::Bad(r) => refused(r, cells),
+    }
+}
+
+// Kind 2, of n bytes.
+fn edge(cells: Cells, s: &[u8], n: usize) -> RecordAnswer
+    requires { ⌜ (n ≡ halfAt (now s) 0) × (2 + n ≤ length (now s)) ⌝ }
+    ensures { λ x. ⌜ x ≡ edgeOf cells (now (s .entry)) ⌝ }
+{
+    if n != 9 {
+        return refused(Refusal::Length, cells);
+    }
+    edge_with(cells, label_at(s, 4))
+}
+
+fn node_with(a: Coded, b: Coded, p: Coded, q: Coded) -> NodeRead
+    ensures { λ x. ⌜ x ≡ nodeWith a b p q ⌝ }
+{
+    let Coded::Is(na) = a else {
+        return NodeRead::Bad;
+    };
+    let Coded::Is(nb) = b else {
+        return NodeRead::Bad;
+    };
+    let Coded::Is(pa) = p else {
+        return NodeRead::Bad;
+    };
+    let Coded::Is(pb) = q else {
+        return NodeRead::Bad;
+    };
+    if is_none(na) | is_none(nb) {
+        return NodeRead::Bad;
+    }
+    NodeRead::Is(Node {
+        a: na,
+        b: nb,
+        p: pa,
+        q: pb,
+    })
+}
+
+fn node_at(s: &[u8]) -> NodeRead
+    requires { ⌜ 8 ≤ length (now s) ⌝ }
+    ensures { λ x. ⌜ x ≡ nodeAt (now (s .entry)) ⌝ }
+{
+    node_with(coded(s[4]), coded(s[5]), coded(s[6]), coded(s[7]))
+}
