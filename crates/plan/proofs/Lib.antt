@@ -3,3 +3,6 @@ pub mod LawsWords
 pub mod LawsReport
 pub mod LawsReportTrip
 pub mod LawsEnds
+pub mod LawsRecord
+pub mod LawsRecordOrder
+pub mod LawsFew

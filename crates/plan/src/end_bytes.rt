@@ -80,7 +80,7 @@ fn no_end() -> EdgeEnd {
 // n ends from a place on.
 pub(crate) fn ends_at(s: &[u8], at: usize, n: usize) -> EndsRead
     requires { ⌜ (n ≤ 32) × (at + 15 * n ≤ length (now s)) ⌝ }
-    ensures { λ r. ⌜ readEnds n (now (s .entry)) at ≡ endsOf (r .answer) (take n (r .ends)) ⌝ }
+    ensures { λ r. ⌜ (readEnds n (now (s .entry)) at ≡ endsOf (r .answer) (take n (r .ends))) × (length (r .ends) ≡ 32) ⌝ }
 {
     let mut ends = [no_end(); 32];
     let mut i: usize = 0;

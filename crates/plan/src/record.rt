@@ -22,12 +22,12 @@ use star::pouring::pour_labels;
 use star::pouring::pour_node;
 use star::topology_position::is_none;
 ghost use mathlib.Core.Path.{_≡_};
-ghost use Prim.Native.Nat.{_+_, _≤_, _<_};
+ghost use Prim.Native.Nat.{_+_, _*_, _≤_};
 ghost use lib.ListN.{length, take};
 ghost use Rattle.star.specs.Gather.{Sound};
 ghost use Rattle.plan.specs.EndBytes.{good};
-ghost use Rattle.plan.specs.Words.{halfAt};
-ghost use Rattle.plan.specs.Record.{refusedAs, acceptedAs, edgeWith, edgeOf, nodeWith, nodeAt, withEnds, nodeOf, recordOf};
+ghost use Rattle.plan.specs.Words.{byteAt, halfAt};
+ghost use Rattle.plan.specs.Record.{refusedAs, acceptedAs, edgeWith, edgeOf, nodeWith, nodeAt, withEnds, withNode, nodeOf, recordOf};
 
 // The answer to a record's bytes, with the matrix beside it: a refusal hands the given numbers back as they came.
 pub struct RecordAnswer {
@@ -76,7 +76,7 @@ fn edge_with(cells: Cells, l: LabelRead) -> RecordAnswer
 }
 
 // Kind 2, of n bytes.
-fn edge(cells: Cells, s: &[u8], n: usize) -> RecordAnswer
+fn edge_record(cells: Cells, s: &[u8], n: usize) -> RecordAnswer
     requires { ⌜ (n ≡ halfAt (now s) 0) × (2 + n ≤ length (now s)) ⌝ }
     ensures { λ x. ⌜ x ≡ edgeOf cells (now (s .entry)) ⌝ }
 {
@@ -117,4 +117,89 @@ fn node_at(s: &[u8]) -> NodeRead
     ensures { λ x. ⌜ x ≡ nodeAt (now (s .entry)) ⌝ }
 {
     node_with(coded(s[4]), coded(s[5]), coded(s[6]), coded(s[7]))
+}
+
+// The star of checked ends, poured over its node.
+fn poured(cells: Cells, used: usize, at: Node, ends: [EdgeEnd; 32], n: usize) -> RecordAnswer
+    requires { ⌜ Sound ends n ⌝ }
+    ensures { λ x. ⌜ x ≡ withEnds cells used at (good (take n ends)) ⌝ }
+{
+    let a = at.a;
+    let b = at.b;
+    let p = at.p;
+    let q = at.q;
+    let star = star_of(ends, n, p, q);
+    let answer = star.answer;
+    let labels = star.labels;
+    let count = star.count;
+    match answer {
+        StarAnswer::Completed => accepted(
+            used,
+            pour_labels(pour_node(from_cells(cells), a, b), labels, count),
+        ),
+        StarAnswer::Refused(r) => refused(r, cells),
+    }
+}
+
+// A node whose count and length are right.
+fn with_node(cells: Cells, s: &[u8], used: usize, n: usize, node: NodeRead) -> RecordAnswer
+    requires { ⌜ (used ≡ 2 + halfAt (now s) 0) × (n ≡ byteAt (now s) 8) ⌝ }
+    requires { ⌜ (n ≤ 32) × (9 + 15 * n ≤ length (now s)) ⌝ }
+    ensures { λ x. ⌜ x ≡ withNode cells (now (s .entry)) node ⌝ }
+{
+    let NodeRead::Is(at) = node else {
+        return refused(Refusal::PositionCode, cells);
+    };
+    let read = ends_at(s, 9, n);
+    let answer = read.answer;
+    let ends = read.ends;
+    match answer {
+        EndsAnswer::Read => poured(cells, used, at, ends, n),
+        EndsAnswer::Refused(r) => refused(r, cells),
+    }
+}
+
+// Kind 1, of n bytes.
+fn node_record(cells: Cells, s: &[u8], n: usize) -> RecordAnswer
+    requires { ⌜ (n ≡ halfAt (now s) 0) × (2 + n ≤ length (now s)) ⌝ }
+    ensures { λ x. ⌜ x ≡ nodeOf cells (now (s .entry)) ⌝ }
+{
+    if n < 7 {
+        return refused(Refusal::Length, cells);
+    }
+    let count = wide(s[8]) as usize;
+    if 32 < count {
+        return refused(Refusal::Ends, cells);
+    }
+    if n != 7 + 15 * count {
+        return refused(Refusal::Length, cells);
+    }
+    with_node(cells, s, 2 + n, count, node_at(s))
+}
+
+// One record from the front of s; bytes after it don't matter.
+pub fn record(cells: Cells, s: &[u8]) -> RecordAnswer
+    ensures { λ x. ⌜ x ≡ recordOf cells (now (s .entry)) ⌝ }
+{
+    if s.len() < 2 {
+        return refused(Refusal::Short, cells);
+    }
+    let n = half_of(s[0], s[1]);
+    if s.len() - 2 < n {
+        return refused(Refusal::Short, cells);
+    }
+    if n < 2 {
+        return refused(Refusal::Length, cells);
+    }
+    if s[2] != 1 {
+        return refused(Refusal::Version, cells);
+    }
+    let kind = s[3];
+    if kind == 1 {
+        return node_record(cells, s, n);
+    }
+    if kind == 2 {
+        return edge_record(cells, s, n);
+    }
+    refused(Refusal::Kind, cells)
 }

@@ -23,8 +23,7 @@ returns : tie.Need-returns Inv-loop μ-loop
 returns c =
     let l = c .before .before .before .before .before .loop in
     let b = c .before .before .before .before .before .before .before .before in
-    l .inv .3 ∙
-    one-bad (b .args .s .now) (l .ends) (l .p) (b .args .n) (l .i) _ (omega arith) (sym (c .before .before .before .end-at .ensures) ∙ c .before .r .given .1)
+    (l .inv .3 ∙ one-bad (b .args .s .now) (l .ends) (l .p) (b .args .n) (l .i) _ (omega arith) (sym (c .before .before .before .end-at .ensures) ∙ c .before .r .given .1), l .inv .2)
 
 loop-again : tie.Need-loop-again Inv-loop μ-loop
 loop-again c =
@@ -41,7 +40,7 @@ returns-2 : tie.Need-returns-2 Inv-loop μ-loop
 returns-2 c =
     let l = c .before .loop in
     let b = c .before .before .before .before in
-    l .inv .3 ∙ all-read (b .args .s .now) (l .ends) (l .p) (b .args .n) (l .i) (omega arith)
+    (l .inv .3 ∙ all-read (b .args .s .now) (l .ends) (l .p) (b .args .n) (l .i) (omega arith), l .inv .2)
 
 pub ends-at-spec : {M : Type 1} → statement M
 ends-at-spec =

@@ -4,8 +4,8 @@ use mathlib.Core.Path.{_≡_, sym, _∙_}
 use borrow.Author.Tests.{eq-eqb, ne-eqb}
 use Rattle.plan.specs.Record.{edgeOf}
 use Rattle.plan.specs.Words.{halfAt}
-use Rattle.plan.proofs.record.edge.Statement.{statement}
-use Rattle.plan.proofs.record.edge.Tie as tie
+use Rattle.plan.proofs.record.edge_record.Statement.{statement}
+use Rattle.plan.proofs.record.edge_record.Tie as tie
 
 returns : tie.Need-returns
 unfolding edgeOf
@@ -19,8 +19,8 @@ returns-2 c =
     let s = c .before .before .before .before .args .s .now in
     c .edge-with .ensures ∙ simp (eq-eqb (halfAt s 0) 9 (omega arith), c .before .label-at .ensures)
 
-pub edge-spec : {M : Type 1} → statement M
-edge-spec =
+pub edge-record-spec : {M : Type 1} → statement M
+edge-record-spec =
     tie.close
     (tie.spec
     (λ c κs. search needs)
