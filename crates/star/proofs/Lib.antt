@@ -10,3 +10,6 @@ pub mod LawsWalk
 pub mod LawsEnds
 pub mod LawsStar
 pub mod LawsPouring
+pub mod LawsJoin
+pub mod LawsCompleted
+pub mod Examples
