@@ -13,3 +13,4 @@ pub mod LawsPouring
 pub mod LawsJoin
 pub mod LawsCompleted
 pub mod Examples
+pub mod LawsUnique
