@@ -14,8 +14,7 @@ use Rattle.star.specs.declared.«edge_end».EdgeEnd.{EdgeEnd}
 use Rattle.star.specs.declared.«edge_end».Checked.{Checked}
 use Rattle.star.specs.declared.«edge_end».Checked.the-variants.{Fine, Refused}
 use Rattle.star.specs.Direction.{zeroDir}
-use Rattle.star.specs.Ends.{far, badDir, lineWithSide, faultOf, orFault, firstFault, checkedOf}
-use Rattle.star.specs.Gather.{noEnd, dirAt, Sound}
+use Rattle.star.specs.Ends.{far, badDir, lineWithSide, faultOf, orFault, firstFault, checkedOf, noEnd, dirAt, Sound}
 use Rattle.star.proofs.LawsLists.{rest, none-left}
 use Rattle.star.proofs.LawsOrder.{All, none, more, all-at}
 

@@ -10,10 +10,10 @@ use Rattle.de9im.specs.declared.«coordinate_position».Position.{Position}
 use Rattle.star.specs.declared.label.Geometry.the-variants.{A, B}
 use Rattle.star.specs.declared.label.Label.{Label}
 use Rattle.star.specs.declared.«edge_end_bundle_star».Looked.{Looked}
-use Rattle.star.specs.Label.{blank}
+use Rattle.star.specs.Label.{blank, padded}
 use Rattle.star.specs.Completing.{startOf, walkedOf, lastOf, collapses, restOf, fillLabel, filledOf, completedOf, missingLeft}
 use Rattle.star.specs.declared.«edge_end».EdgeEnd.{EdgeEnd}
-use Rattle.star.specs.Gather.{padded, JoinedAs}
+use Rattle.star.specs.Gather.{JoinedAs}
 use Rattle.star.specs.Star.{joinedOf}
 use Rattle.star.specs.Walking.{scan, walkBoth, foundOf, lookedOf, foundMissing}
 use Rattle.star.proofs.LawsWalk.{walked-both, missing-looked}

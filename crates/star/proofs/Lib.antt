@@ -10,3 +10,7 @@ pub mod LawsWalk
 pub mod LawsEnds
 pub mod LawsStar
 pub mod LawsPouring
+pub mod LawsJoin
+pub mod LawsCompleted
+pub mod Examples
+pub mod LawsUnique

@@ -19,7 +19,7 @@ use Rattle.star.specs.declared.«edge_end_bundle_star».StarAnswer.the-v
 use Rattle.star.specs.Bundle.{joinOf}
 use Rattle.star.specs.Completing.{missingLeft, completedOf}
 use Rattle.star.specs.Ends.{checkedOf}
-use Rattle.star.specs.Gather.{padded}
+use Rattle.star.specs.Label.{padded}
 use Rattle.star.specs.Star.{joinedOf}
 
 abbrev pub bundledAs : Checked → Label → Bundled

@@ -1,6 +1,9 @@
 -- Document 01: "Labels. Per geometry an on position and, for an area label, left and right. Both halves have the same kind",
 -- and "a line label with a side" of refusal 7.
+use Prim.Native.Nat.{_-_}
 use mathlib.Core.Bool.{Bool, true, false, cond, _&&_}
+use mathlib.Core.List.{List, _++_}
+use lib.ListN.{length, replicate}
 use Rattle.de9im.specs.declared.«coordinate_position».Position.{Position}
 use Rattle.de9im.specs.declared.«coordinate_position».Position.the-variants.{None, Inside, OnBoundary, Outside}
 use Rattle.star.specs.declared.«topology_position».Side.{Side}
@@ -55,3 +58,7 @@ sidesNone s = isNone (s .left) && isNone (s .right)
 -- a line label with nothing known: what stands past the count
 abbrev pub blank : Label
 blank = record { area = false; a = noSides; b = noSides }
+
+-- labels in an array of 32: every slot past them is a blank
+abbrev pub padded : List Label → List Label
+padded ls = ls ++ replicate (32 - length ls) blank

@@ -19,9 +19,9 @@ ghost use mathlib.Core.Path.{_≡_};
 ghost use mathlib.Core.List.{List, _++_, map};
 ghost use Prim.Native.Nat.{_≤_};
 ghost use lib.ListN.{length, take, drop};
-ghost use Rattle.star.specs.Label.{isNone, orElse, halfOf};
+ghost use Rattle.star.specs.Label.{padded};
 ghost use Rattle.star.specs.Completing.{walkSides, walkNext, fillSides, fillLabel, collapses, restOf, lastOf};
-ghost use Rattle.star.specs.Gather.{padded, Sound};
+ghost use Rattle.star.specs.Ends.{Sound};
 ghost use Rattle.star.specs.Calls.{refusedStar, completedStar, starOf, starCall};
 ghost use Rattle.star.specs.Walking.{walkLabel, nextLabel, walkBoth, seenOf, lookLabel, lookedOf, foundMissing};
 

@@ -5,7 +5,7 @@ use Prim.Native.Nat.{_≤_, _-_}
 use lib.ListN.{length, take}
 use lib.Seq.{length-take-le}
 use Rattle.star.specs.Tally.{tallyOf}
-use Rattle.star.specs.Gather.{noEnd}
+use Rattle.star.specs.Ends.{noEnd}
 use Rattle.star.proofs.LawsLists.{take-more}
 use Rattle.star.proofs.LawsTally.{tally-none, tally-snoc, tally-small, label-back}
 use Rattle.star.proofs.edge_end_bundle.join.Statement.{statement}

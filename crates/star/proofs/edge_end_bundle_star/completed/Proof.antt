@@ -4,7 +4,7 @@ use mathlib.Core.Bool.{true, false, _||_}
 use lib.ListN.{length, take}
 use Rattle.star.specs.Calls.{completedStar}
 use Rattle.star.specs.Completing.{missingLeft, completedOf}
-use Rattle.star.specs.Gather.{padded}
+use Rattle.star.specs.Label.{padded}
 use Rattle.star.specs.Walking.{foundMissing}
 use Rattle.star.proofs.LawsStar.{looked-missing, looked-start, done, done-count}
 use Rattle.star.proofs.edge_end_bundle_star.completed.Statement.{statement}
