@@ -16,8 +16,8 @@ use Rattle.star.specs.declared.«edge_end_bundle_star».StarAnswer.the-variants
 use Rattle.star.specs.Calls.{refusedStar}
 use Rattle.star.specs.Direction.{zeroDir}
 use Rattle.star.specs.Label.{blank}
-use Rattle.star.specs.Ends.{badDir, far}
-use Rattle.star.specs.Gather.{Sound, dirAt, noEnd, padded}
+use Rattle.star.specs.Ends.{badDir, far, Sound, dirAt, noEnd}
+use Rattle.star.specs.Label.{padded}
 use Rattle.plan.specs.declared.«label_bytes».LabelRead.{LabelRead}
 use Rattle.plan.specs.declared.«label_bytes».LabelRead.the-variants as L
 use Rattle.plan.specs.declared.«end_bytes».EndRead.{EndRead}

@@ -24,7 +24,7 @@ use star::topology_position::is_none;
 ghost use mathlib.Core.Path.{_≡_};
 ghost use Prim.Native.Nat.{_+_, _*_, _≤_};
 ghost use lib.ListN.{length, take};
-ghost use Rattle.star.specs.Gather.{Sound};
+ghost use Rattle.star.specs.Ends.{Sound};
 ghost use Rattle.plan.specs.EndBytes.{good};
 ghost use Rattle.plan.specs.Words.{byteAt, halfAt};
 ghost use Rattle.plan.specs.Record.{refusedAs, acceptedAs, edgeWith, edgeOf, nodeWith, nodeAt, withEnds, withNode, nodeOf, recordOf};
