@@ -59,7 +59,7 @@ fn spot_number(s: Spot) -> u32
 
 // 256 times the number, plus the place.
 pub(crate) fn refusal_word(r: Refusal) -> u32
-    ensures { λ w. ⌜ w ≡ wordOf r ⌝ }
+    ensures { λ w. ⌜ (w ≡ wordOf r) × (w < 65536) ⌝ }
 {
     256 * number(r) + spot_number(place(r))
 }

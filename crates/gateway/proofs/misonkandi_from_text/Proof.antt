@@ -13,4 +13,4 @@ misonkandi-from-text-spec =
     (λ c κs. search needs)
     (λ c. rw (← c .before .before .before .from-str .ensures, c .enum-told .given .1) (refl, refl))
     (λ c. rw (← c .before .before .before .before .before .from-str .ensures, c .before .before .parsed .given .1)
-    (c .refusal-word .ensures, refl)))
+    (c .refusal-word .ensures .0, refl)))

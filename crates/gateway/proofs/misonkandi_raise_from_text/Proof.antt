@@ -13,7 +13,7 @@ returns-2 c =
     let s = f .before .before .before .args in
     let e : raisedFrom (s .cells .now) (s .text .now) .parsed ≡ Refused (c .before .before .parsed .given .0 .0) = sym
     (ap (λ (x : TextAnswer). x .parsed) (f .set-at-least-from-string .ensures)) ∙ c .before .before .parsed .given .1 in
-    (rw e (c .refusal-word .ensures), sym (raised-kept (s .cells .now) (s .text .now) _ e))
+    (rw e (c .refusal-word .ensures .0), sym (raised-kept (s .cells .now) (s .text .now) _ e))
 
 pub misonkandi-raise-from-text-spec : {M : Type 1} → statement M
 misonkandi-raise-from-text-spec =

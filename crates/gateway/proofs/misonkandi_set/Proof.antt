@@ -9,7 +9,7 @@ returns : tie.Need-returns
 returns c =
     let e : codedOf (c .before .before .before .before .args .a) ≡ Bad = sym
     (c .before .before .before .position-coded .ensures) ∙ c .before .enum-told .given .1 in
-    rw e (c .refusal-word .ensures, refl)
+    rw e (c .refusal-word .ensures .0, refl)
 
 returns-2 : tie.Need-returns-2
 returns-2 c =
@@ -17,7 +17,7 @@ returns-2 c =
     let s = b .before .before .before .args in
     let e : codedOf (s .a) ≡ Is (b .p .given .0 .0) = sym (b .before .before .position-coded .ensures) ∙ b .p .given .1 in
     let f : codedOf (s .b) ≡ Bad = sym (c .before .before .before .position-coded2 .ensures) ∙ c .before .enum-told2 .given .1 in
-    rw (e, f) (c .refusal-word2 .ensures, refl)
+    rw (e, f) (c .refusal-word2 .ensures .0, refl)
 
 returns-3 : tie.Need-returns-3
 returns-3 c =

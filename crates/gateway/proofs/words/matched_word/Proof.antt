@@ -12,4 +12,4 @@ matched-word-spec =
     (λ c κs. search needs)
     (λ c. search needs)
     (λ c. search needs)
-    (λ c. simp (c .refusal-word .ensures, c .before .before .m .given .1)))
+    (λ c. simp (c .refusal-word .ensures .0, c .before .before .m .given .1)))

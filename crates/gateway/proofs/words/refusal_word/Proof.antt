@@ -13,4 +13,7 @@ refusal-word-spec =
     (λ c κs. search needs)
     (λ c κs. search needs)
     (λ c. omega (arith, number-small (c .before .before .before .args .r)))
-    (λ c. simp (c .before .before .number .ensures, c .spot-number .ensures .0, c .before .place .ensures)))
+    (λ c. (
+      simp (c .before .before .number .ensures, c .spot-number .ensures .0, c .before .place .ensures),
+      omega (arith, number-small (c .before .before .before .args .r)),
+    )))
