@@ -1,0 +1,2 @@
+-- Facts about the definitions of specs/, each stated once.
+pub mod LawsRules
