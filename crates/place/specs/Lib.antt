@@ -6,4 +6,5 @@ pub mod Spans
 pub mod Rules
 pub mod Places
 pub mod Relate
+pub mod Sets
 pub mod Examples

@@ -11,7 +11,13 @@ returns : tie.Need-returns
 unfolding pointBox
 returns c =
     let s = c .before .before .before .before .before .args in
-    simp (c .pick3 .ensures, c .before .pick2 .ensures, c .before .before .pick .ensures, c .before .before .before .is-inside-or-on .ensures, c .before .before .before .before .is-inside .ensures)
+    simp (
+      c .pick3 .ensures,
+      c .before .pick2 .ensures,
+      c .before .before .pick .ensures,
+      c .before .before .before .is-inside-or-on .ensures,
+      c .before .before .before .before .is-inside .ensures,
+    )
     (point-cells (inside floats (spotOf (s .p)) (areaOf (s .b))) (insideOrOn floats (spotOf (s .p)) (areaOf (s .b))))
 
 pub point-box-spec : {M : Type 1} → statement M

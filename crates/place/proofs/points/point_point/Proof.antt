@@ -11,7 +11,12 @@ returns : tie.Need-returns
 unfolding pointPoint
 returns c =
     let s = c .before .before .before .before .args in
-    simp (c .pick3 .ensures, c .before .pick2 .ensures, c .before .before .pick .ensures, c .before .before .before .is-same .ensures)
+    simp (
+      c .pick3 .ensures,
+      c .before .pick2 .ensures,
+      c .before .before .pick .ensures,
+      c .before .before .before .is-same .ensures,
+    )
     (points-cells (same floats (spotOf (s .p)) (spotOf (s .q))))
 
 pub point-point-spec : {M : Type 1} → statement M

@@ -7,7 +7,13 @@ returns : tie.Need-returns
 unfolding relateOf
 returns c =
     let t = c .before .before in
-    rw (← t .before .before .is-place .ensures, ← t .before .is-place2 .ensures, t .if1 .taken, c .to-cells .ensures, c .before .matrix .ensures)
+    rw (
+      ← t .before .before .is-place .ensures,
+      ← t .before .is-place2 .ensures,
+      t .if1 .taken,
+      c .to-cells .ensures,
+      c .before .matrix .ensures,
+    )
 
 returns-2 : tie.Need-returns-2
 unfolding relateOf

@@ -1,0 +1,84 @@
+-- What `relate` answers, over all places: accepted or refused, exchanged, with itself. Assumes nothing.
+use Prim.Native.Nat.{ℕ}
+use Prim.Native.String.{String}
+use mathlib.Core.Path.{_≡_, refl}
+use mathlib.Core.Bool.{Bool, true, false, cond, _&&_, and-false}
+use native.Mathlib.Omega.{arith}
+use lib.Ieee.{Float, lt, eq}
+use Rattle.de9im.specs.declared.refusal.Refusal.the-variants.{NotAPlace}
+use Rattle.de9im.specs.Matrix.{Matrix, transposedOf}
+use Rattle.de9im.specs.Refused.{numberOf}
+use Rattle.de9im.specs.Text.{cellLetterOf}
+use Rattle.place.specs.declared.places.Corner.{Corner}
+use Rattle.place.specs.declared.places.Rect.{Rect}
+use Rattle.place.specs.declared.places.Place.{Place}
+use Rattle.place.specs.declared.places.Place.the-variants as P
+use Rattle.place.specs.Order.{floats}
+use Rattle.place.specs.Shapes.{shapeOf}
+use Rattle.place.specs.Places.{finite, finiteCorner, minBelowMax, isPlace}
+use Rattle.place.specs.Rules.{printed, boxBox, pointPoint, related}
+use Rattle.place.specs.Relate.{accepted, refused, relateOf}
+use Rattle.place.proofs.LawsFloats.{eq-sym, eq-self, lt-self}
+use Rattle.place.proofs.LawsExchange.{exchanged}
+
+never : false ≡ true → ⊥
+never e = let z : _≡_ {A = ℕ} 0 1 = cc in omega arith
+
+both : (a b : Bool) → (a && b) ≡ true → (a ≡ true) × (b ≡ true)
+both true true h = (refl, refl)
+both true false h = absurd (never h)
+both false b h = absurd (never h)
+
+-- two places are accepted with their matrix
+pub answers : (p q : Place) → isPlace p ≡ true → isPlace q ≡ true
+    → relateOf p q ≡ accepted (related floats (shapeOf p) (shapeOf q))
+unfolding relateOf
+answers p q h k = rw (h, k) refl
+
+-- anything else is refused with number 13 and nine zeros, whichever of the two is no place
+pub refuses-first : (p q : Place) → isPlace p ≡ false → relateOf p q ≡ refused
+unfolding relateOf
+refuses-first p q h = rw h refl
+
+pub refuses-second : (p q : Place) → isPlace q ≡ false → relateOf p q ≡ refused
+unfolding relateOf
+refuses-second p q h = rw (h, and-false) refl
+
+pub number-13 : numberOf NotAPlace ≡ 13
+number-13 = refl
+
+-- exchanging the two transposes the matrix
+pub relate-exchanged : (p q : Place) → isPlace p ≡ true → isPlace q ≡ true
+    → relateOf q p ≡ accepted (transposedOf (related floats (shapeOf p) (shapeOf q)))
+relate-exchanged p q h k = rw (answers q p k h, exchanged floats eq-sym (shapeOf p) (shapeOf q)) refl
+
+-- what a place and itself make
+abbrev pub itself : Place → String
+itself (P.Point c) = "0FFFFFFF2"
+itself (P.Box b) = "2FFF1FFF2"
+
+self-matrix : (p : Place) → isPlace p ≡ true → related floats (shapeOf p) (shapeOf p) ≡ printed (itself p)
+unfolding isPlace related boxBox pointPoint cellLetterOf
+self-matrix (P.Point c) h =
+    let f = both (finite (c .x)) (finite (c .y)) h in
+    rw (eq-self (c .x) (f .0), eq-self (c .y) (f .1)) refl
+self-matrix (P.Box b) h =
+    let lo = b .min in
+    let hi = b .max in
+    let k = both (finiteCorner lo && finiteCorner hi) (minBelowMax b) h in
+    let f = both (finiteCorner lo) (finiteCorner hi) (k .0) in
+    let l = both (finite (lo .x)) (finite (lo .y)) (f .0) in
+    let u = both (finite (hi .x)) (finite (hi .y)) (f .1) in
+    let m = both (lt (lo .x) (hi .x)) (lt (lo .y) (hi .y)) (k .1) in
+    simp (
+      m .0,
+      m .1,
+      lt-self,
+      eq-self (b .min .x) (l .0),
+      eq-self (b .min .y) (l .1),
+      eq-self (b .max .x) (u .0),
+      eq-self (b .max .y) (u .1),
+    )
+
+pub with-itself : (p : Place) → isPlace p ≡ true → relateOf p p ≡ accepted (printed (itself p))
+with-itself p h = rw (answers p p h h, self-matrix p h) refl
