@@ -1,11 +1,15 @@
 -- What `relate` answers, over all places: accepted or refused, exchanged, with itself. Assumes nothing.
 use Prim.Native.Nat.{ℕ}
 use Prim.Native.String.{String}
-use mathlib.Core.Path.{_≡_, refl}
+use mathlib.Core.Path.{_≡_, refl, sym, ap}
 use mathlib.Core.Bool.{Bool, true, false, cond, _&&_, and-false}
+use mathlib.Core.Logic.{_↔_}
 use native.Mathlib.Omega.{arith}
+use lib.ListN.{getD}
 use lib.Ieee.{Float, lt, eq}
+use Rattle.de9im.specs.declared.dimensions.Dimensions.the-variants.{TwoDimensional}
 use Rattle.de9im.specs.declared.refusal.Refusal.the-variants.{NotAPlace}
+use Rattle.de9im.specs.Dimension.{dimNo}
 use Rattle.de9im.specs.Matrix.{Matrix, transposedOf}
 use Rattle.de9im.specs.Refused.{numberOf}
 use Rattle.de9im.specs.Text.{cellLetterOf}
@@ -19,7 +23,7 @@ use Rattle.place.specs.Places.{finite, finiteCorner, minBelowMax, isPlac
 use Rattle.place.specs.Rules.{printed, boxBox, pointPoint, related}
 use Rattle.place.specs.Relate.{accepted, refused, relateOf}
 use Rattle.place.proofs.LawsFloats.{eq-sym, eq-self, lt-self}
-use Rattle.place.proofs.LawsExchange.{exchanged}
+use Rattle.place.proofs.LawsExchange.{ee-two, exchanged}
 
 never : false ≡ true → ⊥
 never e = let z : _≡_ {A = ℕ} 0 1 = cc in omega arith
@@ -44,8 +48,21 @@ pub refuses-second : (p q : Place) → isPlace q ≡ false → relateOf p q ≡ 
 unfolding relateOf
 refuses-second p q h = rw (h, and-false) refl
 
+-- refused exactly then, and accepted exactly otherwise
+decided : (t : Bool) (m : Matrix) → (cond t (accepted m) refused ≡ refused) ↔ (t ≡ false)
+decided true m = (λ e. absurd (let z : _≡_ {A = ℕ} 0 1 = cc (ap (λ a. a .related) e) in omega arith), λ e. absurd (never (sym e)))
+decided false m = (λ e. refl, λ e. refl)
+
+pub thirteen-exactly : (p q : Place) → (relateOf p q ≡ refused) ↔ ((isPlace p && isPlace q) ≡ false)
+unfolding relateOf
+thirteen-exactly p q = decided (isPlace p && isPlace q) (related floats (shapeOf p) (shapeOf q))
+
 pub number-13 : numberOf NotAPlace ≡ 13
 number-13 = refl
+
+-- EE is always 2
+pub relate-ee : (p q : Place) → isPlace p ≡ true → isPlace q ≡ true → getD (relateOf p q .cells) 8 0 ≡ dimNo TwoDimensional
+relate-ee p q h k = rw (answers p q h k) (ap dimNo (ee-two floats (shapeOf p) (shapeOf q)))
 
 -- exchanging the two transposes the matrix
 pub relate-exchanged : (p q : Place) → isPlace p ≡ true → isPlace q ≡ true

@@ -9,3 +9,5 @@ pub mod LawsRanges
 pub mod LawsSets
 pub mod LawsDimensions
 pub mod LawsMeaning
+pub mod LawsNumbers
+pub mod LawsPlane

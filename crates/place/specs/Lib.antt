@@ -7,4 +7,5 @@ pub mod Rules
 pub mod Places
 pub mod Relate
 pub mod Sets
+pub mod Numbers
 pub mod Examples

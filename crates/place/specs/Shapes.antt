@@ -32,3 +32,23 @@ areaOf b = record { xs = record { lo = b .min .x; hi = b .max .x }; ys = record 
 abbrev pub shapeOf : Place → Shape Float
 shapeOf (P.Point c) = point (spotOf c)
 shapeOf (P.Box b) = box (areaOf b)
+
+-- the shape with f of each x coordinate and g of each y coordinate
+module _ {A B : Type 0} (f g : A → B) where
+  abbrev pub mapSpot : Spot A → Spot B
+  mapSpot p = record { x = f (p .x); y = g (p .y) }
+
+  abbrev pub mapArea : Area A → Area B
+  mapArea b =
+      record {
+        xs = record { lo = f (b .xs .lo); hi = f (b .xs .hi) };
+        ys = record { lo = g (b .ys .lo); hi = g (b .ys .hi) };
+      }
+
+  abbrev pub mapAxes : Shape A → Shape B
+  mapAxes (point p) = point (mapSpot p)
+  mapAxes (box b) = box (mapArea b)
+
+-- with f of each coordinate
+abbrev pub mapShape : {A B : Type 0} → (A → B) → Shape A → Shape B
+mapShape f p = mapAxes f f p
