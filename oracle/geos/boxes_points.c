@@ -206,7 +206,7 @@ static void tie(place *a, const place *b) {
         *a = t;
 }
 
-static void random_pairs(long n) {
+static void random_pairs(long n, int list) {
     static const int64_t sizes[4] = {5, 100, 10000, 1000000};
     for (long i = 0; i < n; i++) {
         int64_t size = sizes[i % 4];
@@ -214,13 +214,13 @@ static void random_pairs(long n) {
         if (draw() % 2)
             tie(&a, &b);
         GEOSGeometry *ga = geometry(&a, (int)(draw() & 1)), *gb = geometry(&b, (int)(draw() & 1));
-        compare(&a, &b, ga, gb, 0);
+        compare(&a, &b, ga, gb, list);
         GEOSGeom_destroy(ga);
         GEOSGeom_destroy(gb);
     }
 }
 
-/* boxes_points [--list] [PAIRS [SEED]]; --list prints GEOS's answer for each pair of the small grid. */
+/* boxes_points [--list] [PAIRS [SEED]]; --list prints GEOS's answer for each pair. */
 int main(int argc, char **argv) {
     int list = argc > 1 && !strcmp(argv[1], "--list");
     long n = argc > 1 + list ? atol(argv[1 + list]) : 200000;
@@ -230,7 +230,7 @@ int main(int argc, char **argv) {
     int k = grid(set, 3);
     all_pairs(set, k, list);
     printf("grid 0..3: %d places, %ld pairs, %ld differ\n", k, pairs, differ);
-    random_pairs(n);
+    random_pairs(n, list);
     printf("with random pairs, seed %s: %ld pairs, %ld differ (GEOS %s)\n", argc > 2 + list ? argv[2 + list] : "1", pairs, differ,
            GEOSversion());
     finishGEOS();

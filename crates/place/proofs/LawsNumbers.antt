@@ -23,7 +23,7 @@ below-one-way true a false b h = refl
 below-one-way true a true b h = let k = ltb-true b a h in le-ltb a b (omega arith)
 
 -- equal, or one below the other
-apart-or-equal : (a b : ℕ) → eqb a b ≡ not (ltb a b || ltb b a)
+pub apart-or-equal : (a b : ℕ) → eqb a b ≡ not (ltb a b || ltb b a)
 apart-or-equal a b =
     told (ltb a b)
     (λ h. let k = ltb-true a b h in rw (h, ne-eqb a b (λ e. absurd (omega arith))) refl)

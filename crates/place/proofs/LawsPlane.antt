@@ -42,7 +42,7 @@ same-plane (P.Box b) h =
     let u = both (finite (hi .x)) (finite (hi .y)) (f .1) in
     rw (back (lo .x) (l .0), back (lo .y) (l .1), back (hi .x) (u .0), back (hi .y) (u .1)) refl
 
-proper : (p : Place) → isPlace p ≡ true → Proper numbers (inPlane p)
+pub proper : (p : Place) → isPlace p ≡ true → Proper numbers (inPlane p)
 unfolding isPlace
 proper (P.Point c) h = tt
 proper (P.Box b) h =
@@ -57,7 +57,7 @@ proper (P.Box b) h =
 
 module _ (p q : Place) (hp : isPlace p ≡ true) (hq : isPlace q ≡ true) where
   -- the matrix of the floats is the matrix in the plane
-  in-plane : related numbers (inPlane p) (inPlane q) ≡ related floats (shapeOf p) (shapeOf q)
+  pub in-plane : related numbers (inPlane p) (inPlane q) ≡ related floats (shapeOf p) (shapeOf q)
   in-plane =
       kept numbers floats floatOf (record { same-lt = λ i j. refl; same-eq = λ i j. refl }) (inPlane p) (inPlane q)
       ∙ rw (same-plane p hp, same-plane q hq) refl

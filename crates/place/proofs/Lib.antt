@@ -11,3 +11,4 @@ pub mod LawsDimensions
 pub mod LawsMeaning
 pub mod LawsNumbers
 pub mod LawsPlane
+pub mod LawsWhole
