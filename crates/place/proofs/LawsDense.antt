@@ -1,19 +1,11 @@
 -- Laws of a dense order, and of ranges in it. Assumes nothing.
-use Prim.Native.Nat.{ℕ}
-use mathlib.Core.Path.{_≡_, refl, sym, _∙_}
-use mathlib.Core.Bool.{Bool, true, false, not, _&&_, _||_}
+use mathlib.Core.Path.{_≡_, refl}
+use mathlib.Core.Bool.{not}
 use mathlib.Core.Logic.{_⊎_, inl, inr}
-use native.Mathlib.Omega.{arith}
 use Rattle.place.specs.Order.{Order, le}
 use Rattle.place.specs.Shapes.{Span}
-use Rattle.place.specs.Sets.{Below, AtMost, Strictly, Closed, Long, Level, Dense}
-
-pub told : {P : Type 0} (t : Bool) → (t ≡ true → P) → (t ≡ false → P) → P
-told true y n = y refl
-told false y n = n refl
-
-pub clash : {P : Type 0} {t : Bool} → t ≡ true → t ≡ false → P
-clash h k = absurd (let z : _≡_ {A = ℕ} 0 1 = cc in omega arith)
+use Rattle.place.specs.Sets.{Below, AtMost, Strictly, Long, Level, Dense}
+use Rattle.place.proofs.LawsBool.{told, clash}
 
 -- a span of its ends
 abbrev pub span : {A : Type 0} → A → A → Span A

@@ -1,13 +1,12 @@
 -- Exchanging two shapes transposes their matrix, if equal is equal the other way round; and EE is always 2. Assumes nothing.
-use mathlib.Core.Path.{_≡_, refl, sym, _∙_}
-use mathlib.Core.Bool.{Bool, true, false, cond, not, _&&_, _||_, and-comm, or-comm}
-use mathlib.Core.List.{[], _∷_}
+use mathlib.Core.Path.{_≡_, refl}
+use mathlib.Core.Bool.{Bool, true, false, cond, _||_, and-comm, or-comm}
 use Rattle.de9im.specs.declared.coordinate_position.CoordPos.the-variants.{Outside}
 use Rattle.de9im.specs.declared.dimensions.Dimensions.the-variants.{TwoDimensional}
-use Rattle.de9im.specs.Matrix.{Matrix, cellOf, transposedOf}
+use Rattle.de9im.specs.Matrix.{cellOf, transposedOf}
 use Rattle.de9im.specs.Text.{cellLetterOf}
 use Rattle.place.specs.Order.{Order, le}
-use Rattle.place.specs.Shapes.{Span, Spot, Area, Shape, point, box}
+use Rattle.place.specs.Shapes.{Span, Spot, Shape, point, box}
 use Rattle.place.specs.Ranges.{inOpen, meet, overlap, onBoth, shareEnd, inside, insideOrOn, same}
 use Rattle.place.specs.Rules.{printed, boxBox, pointBox, pointPoint, related}
 

@@ -1,17 +1,13 @@
 -- Laws of the comparisons of floats, on numbers. Assumes nothing.
-use Prim.Native.Nat.{ℕ, _+_, _*_, _≤_, _<_}
+use Prim.Native.Nat.{ℕ, _*_}
 use mathlib.Core.Path.{_≡_, refl}
-use mathlib.Core.Bool.{Bool, true, false, not, _&&_, _||_, Bool·beq, and-false}
+use mathlib.Core.Bool.{Bool, true, false, _&&_}
 use native.Mathlib.Omega.{arith}
 use borrow.Author.Tests.{eq-eqb, ne-eqb, eqb-true, eqb-false, le-ltb}
-use lib.Dec.{eqb, ltb}
-use lib.Ieee.{Float, nan, inf, fin, up, down, below, level, lt, eq}
+use lib.Dec.{eqb}
+use lib.Ieee.{Float, nan, inf, fin, up, down, level, lt, eq}
 use Rattle.place.specs.Places.{finite}
-
--- a test by its answer
-told : {P : Type 0} (t : Bool) → (t ≡ true → P) → (t ≡ false → P) → P
-told true y n = y refl
-told false y n = n refl
+use Rattle.place.proofs.LawsBool.{told, clash}
 
 eqb-sym : (a b : ℕ) → eqb a b ≡ eqb b a
 eqb-sym a b =
@@ -52,10 +48,7 @@ eq-sym (fin s m e) (fin t n d) = level-sym s (m * up e * down d) t (n * up d * d
 pub eq-self : (x : Float) → finite x ≡ true → eq x x ≡ true
 unfolding eq finite
 eq-self nan h = h
-eq-self (inf s) h = absurd (never h)
-  where
-    never : false ≡ true → ⊥
-    never e = let z : _≡_ {A = ℕ} 0 1 = cc in omega arith
+eq-self (inf s) h = clash h refl
 eq-self (fin true m e) h = rw (eq-eqb (m * up e * down e) (m * up e * down e) refl) refl
 eq-self (fin false m e) h = rw (eq-eqb (m * up e * down e) (m * up e * down e) refl) refl
 

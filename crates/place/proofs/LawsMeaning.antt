@@ -1,8 +1,8 @@
 -- Every cell's letter is the dimension of the set of points that lie in both parts, for any two places, over any dense
 -- linear order without ends; so a cell is F exactly when no point lies in both. Assumes nothing.
-use mathlib.Core.Path.{_≡_, refl, sym, _∙_, subst}
+use mathlib.Core.Path.{_≡_, refl, subst}
 use mathlib.Core.Bool.{Bool, true, false, not, cond, _&&_, _||_, and-comm}
-use mathlib.Core.Logic.{_⊎_, inl, inr, _↔_}
+use mathlib.Core.Logic.{_↔_}
 use Rattle.de9im.specs.declared.coordinate_position.CoordPos.{CoordPos}
 use Rattle.de9im.specs.declared.coordinate_position.CoordPos.the-variants.{Inside as I, OnBoundary as B, Outside as E}
 use Rattle.de9im.specs.declared.dimensions.Dimensions.{Dimensions}
@@ -12,16 +12,16 @@ use Rattle.de9im.specs.Text.{cellLetterOf}
 use Rattle.place.specs.Order.{Order, le}
 use Rattle.place.specs.Shapes.{Span, Spot, Area, Shape, point, box}
 use Rattle.place.specs.Ranges.{overlap, onBoth, shareX, shareY, between, betweenOrOn, inside, insideOrOn, same}
-use Rattle.place.specs.Rules.{printed, isTwo, within, apart, boxBox, pointBox, pointPoint, related}
-use Rattle.place.specs.Sets.{Below, AtMost, Strictly, Closed, InOpen, InClosed, Level, At, Part, Common, Long, Wide, Proper, spot}
+use Rattle.place.specs.Rules.{printed, within, apart, boxBox, pointBox, pointPoint, related}
+use Rattle.place.specs.Sets.{Strictly, Closed, InOpen, InClosed, Level, At, Part, Common, Wide, Proper, spot}
 use Rattle.place.specs.Sets.{HasPoint, HasSide, across, upright, HasArea, OfDimension, Dense}
+use Rattle.place.proofs.LawsBool.{clash, both, all}
 use Rattle.place.proofs.LawsRules.{two-if, two-unless}
-use Rattle.place.proofs.LawsDense as dense
-use Rattle.place.proofs.LawsDense.{told, clash, span, at-self, lt-le, le-lt, clear, beside, off-not, narrow}
+use Rattle.place.proofs.LawsDense.{at-self, lt-le, le-lt, clear, beside, off-not, narrow}
 use Rattle.place.proofs.LawsRanges as ranges
-use Rattle.place.proofs.LawsRanges.{both, one-false, neither, all, either, le-yes, yes-le, eq-yes, yes-eq, end-lo, strictly-closed}
+use Rattle.place.proofs.LawsRanges.{le-yes, yes-le, eq-yes, yes-eq, end-lo, strictly-closed}
 use Rattle.place.proofs.LawsSets as sets
-use Rattle.place.proofs.LawsDimensions.{same-points, side-point, area-side, one-dimension}
+use Rattle.place.proofs.LawsDimensions.{same-points, one-dimension}
 
 -- a cell of the transpose
 transposed-cell : (m : Matrix) (i j : CoordPos) → cellOf (transposedOf m) i j ≡ cellOf m j i

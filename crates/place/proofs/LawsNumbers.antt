@@ -1,6 +1,6 @@
 -- The numbers m · 2 ^ e are a dense linear order without ends. A number is a fraction ±n / k here. Assumes nothing.
-use Prim.Native.Nat.{ℕ, zero, suc, _+_, _*_, _^_, _≤_, _<_}
-use mathlib.Core.Path.{_≡_, refl, sym, _∙_}
+use Prim.Native.Nat.{ℕ, suc, _+_, _*_, _^_, _≤_, _<_}
+use mathlib.Core.Path.{_≡_, refl, _∙_}
 use mathlib.Core.Bool.{Bool, true, false, not, _&&_, _||_, and-true, or-false, or-comm}
 use native.Mathlib.Omega.{arith}
 use native.Mathlib.Nat.{add-comm, add-mul, zero-mul, mul-one, mul-comm, mul-assoc, mul-left-comm, mul-pos, pow-suc}
@@ -8,13 +8,13 @@ use native.Mathlib.Nat.{mul-lt-mul-of-pos-right}
 use borrow.Author.Tests.{lt-ltb, le-ltb, eq-eqb, ne-eqb, ltb-true, ltb-false}
 use lib.Dec.{ltb, eqb}
 use lib.IntN.{ℤ, pos, negsuc}
-use lib.Pow.{pow-add, pow-pos}
+use lib.Pow.{pow-add}
 use lib.Ieee.{fin, up, down, below, level, lt, eq}
 use lib.Ieee.Fits.{up-pos, down-pos}
-use lib.Ieee.Positive.{through, first-pos}
+use lib.Ieee.Positive.{through}
 use Rattle.place.specs.Numbers.{Number, floatOf, numbers}
 use Rattle.place.specs.Sets.{Dense}
-use Rattle.place.proofs.LawsDense.{told, clash}
+use Rattle.place.proofs.LawsBool.{told, clash}
 
 below-one-way : (s : Bool) (a : ℕ) (t : Bool) (b : ℕ) → below s a t b ≡ true → below t b s a ≡ false
 below-one-way false a false b h = let k = ltb-true a b h in le-ltb b a (omega arith)

@@ -1,7 +1,7 @@
 -- For any two places of f64 coordinates: every cell that `relate` answers is the dimension of the set of points, in the plane
 -- of the numbers m · 2 ^ e, that lie in both parts. Assumes nothing.
-use mathlib.Core.Path.{_≡_, refl, sym, _∙_, ap}
-use mathlib.Core.Bool.{Bool, true, false, _&&_}
+use mathlib.Core.Path.{_≡_, refl, _∙_}
+use mathlib.Core.Bool.{true, _&&_}
 use mathlib.Core.Logic.{_↔_}
 use lib.Ieee.{Float, nan, inf, fin, lt}
 use Rattle.de9im.specs.declared.coordinate_position.CoordPos.{CoordPos}
@@ -10,14 +10,13 @@ use Rattle.de9im.specs.Matrix.{cellOf}
 use Rattle.place.specs.declared.places.Place.{Place}
 use Rattle.place.specs.declared.places.Place.the-variants as P
 use Rattle.place.specs.Order.{floats}
-use Rattle.place.specs.Shapes.{Shape, mapShape, shapeOf}
+use Rattle.place.specs.Shapes.{mapShape, shapeOf}
 use Rattle.place.specs.Places.{finite, finiteCorner, minBelowMax, isPlace}
 use Rattle.place.specs.Rules.{related}
 use Rattle.place.specs.Sets.{Common, Proper, HasPoint, OfDimension}
-use Rattle.place.specs.Numbers.{Number, floatOf, numbers, numberOf, inPlane}
-use Rattle.place.proofs.LawsAlike.{Alike, kept}
-use Rattle.place.proofs.LawsDense.{clash}
-use Rattle.place.proofs.LawsRanges.{both}
+use Rattle.place.specs.Numbers.{floatOf, numbers, numberOf, inPlane}
+use Rattle.place.proofs.LawsBool.{clash, both}
+use Rattle.place.proofs.LawsAlike.{kept}
 use Rattle.place.proofs.LawsMeaning as meaning
 use Rattle.place.proofs.LawsNumbers.{numbers-dense}
 

@@ -1,34 +1,14 @@
 -- Two ranges in a dense order: what the rules' words give and take. Assumes nothing.
 use mathlib.Core.Path.{_≡_, refl, sym, _∙_}
-use mathlib.Core.Bool.{Bool, true, false, not, _&&_, _||_, or-true}
+use mathlib.Core.Bool.{true, false, _||_, or-true}
 use mathlib.Core.Logic.{_⊎_, inl, inr}
 use borrow.Author.Tests.{not-true, not-false}
 use Rattle.place.specs.Order.{Order, le}
 use Rattle.place.specs.Shapes.{Span}
 use Rattle.place.specs.Ranges.{inClosed, inOpen, meet, overlap, shareEnd}
 use Rattle.place.specs.Sets.{Below, AtMost, Strictly, Closed, Long, Level, Dense}
-use Rattle.place.proofs.LawsDense as dense
-use Rattle.place.proofs.LawsDense.{told, clash, span, at-self, lt-le, le-lt, le-is, Off, top, bottom, narrow}
-
-pub both : (a b : Bool) → (a && b) ≡ true → (a ≡ true) × (b ≡ true)
-both true true h = (refl, refl)
-both true false h = clash h refl
-both false b h = clash h refl
-
-pub one-false : (a b : Bool) → (a && b) ≡ false → (a ≡ false) ⊎ (b ≡ false)
-one-false true b h = inr h
-one-false false b h = inl refl
-
-pub either : (a b : Bool) → (a || b) ≡ true → (a ≡ true) ⊎ (b ≡ true)
-either true b h = inl refl
-either false b h = inr h
-
-pub neither : (a b : Bool) → (a || b) ≡ false → (a ≡ false) × (b ≡ false)
-neither true b h = clash refl h
-neither false b h = (refl, h)
-
-pub all : {a b : Bool} → a ≡ true → b ≡ true → (a && b) ≡ true
-all h k = rw (h, k) refl
+use Rattle.place.proofs.LawsBool.{told, clash, both, one-false, neither, all}
+use Rattle.place.proofs.LawsDense.{span, at-self, lt-le, le-lt, le-is, Off, top, bottom, narrow}
 
 module _ {A : Type 0} (o : Order A) (d : Dense o) where
   pub le-yes : {a b : A} → le o a b ≡ true → AtMost o a b

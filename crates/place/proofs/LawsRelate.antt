@@ -1,20 +1,18 @@
 -- What `relate` answers, over all places: accepted or refused, exchanged, with itself. Assumes nothing.
 use Prim.Native.Nat.{ℕ}
 use Prim.Native.String.{String}
-use mathlib.Core.Path.{_≡_, refl, sym, ap}
+use mathlib.Core.Path.{_≡_, refl, ap}
 use mathlib.Core.Bool.{Bool, true, false, cond, _&&_, and-false}
 use mathlib.Core.Logic.{_↔_}
 use native.Mathlib.Omega.{arith}
 use lib.ListN.{getD}
-use lib.Ieee.{Float, lt, eq}
+use lib.Ieee.{lt}
 use Rattle.de9im.specs.declared.dimensions.Dimensions.the-variants.{TwoDimensional}
 use Rattle.de9im.specs.declared.refusal.Refusal.the-variants.{NotAPlace}
 use Rattle.de9im.specs.Dimension.{dimNo}
 use Rattle.de9im.specs.Matrix.{Matrix, transposedOf}
 use Rattle.de9im.specs.Refused.{numberOf}
 use Rattle.de9im.specs.Text.{cellLetterOf}
-use Rattle.place.specs.declared.places.Corner.{Corner}
-use Rattle.place.specs.declared.places.Rect.{Rect}
 use Rattle.place.specs.declared.places.Place.{Place}
 use Rattle.place.specs.declared.places.Place.the-variants as P
 use Rattle.place.specs.Order.{floats}
@@ -22,16 +20,9 @@ use Rattle.place.specs.Shapes.{shapeOf}
 use Rattle.place.specs.Places.{finite, finiteCorner, minBelowMax, isPlace}
 use Rattle.place.specs.Rules.{printed, boxBox, pointPoint, related}
 use Rattle.place.specs.Relate.{accepted, refused, relateOf}
+use Rattle.place.proofs.LawsBool.{clash, both}
 use Rattle.place.proofs.LawsFloats.{eq-sym, eq-self, lt-self}
 use Rattle.place.proofs.LawsExchange.{ee-two, exchanged}
-
-never : false ≡ true → ⊥
-never e = let z : _≡_ {A = ℕ} 0 1 = cc in omega arith
-
-both : (a b : Bool) → (a && b) ≡ true → (a ≡ true) × (b ≡ true)
-both true true h = (refl, refl)
-both true false h = absurd (never h)
-both false b h = absurd (never h)
 
 -- two places are accepted with their matrix
 pub answers : (p q : Place) → isPlace p ≡ true → isPlace q ≡ true
@@ -50,7 +41,7 @@ refuses-second p q h = rw (h, and-false) refl
 
 -- refused exactly then, and accepted exactly otherwise
 decided : (t : Bool) (m : Matrix) → (cond t (accepted m) refused ≡ refused) ↔ (t ≡ false)
-decided true m = (λ e. absurd (let z : _≡_ {A = ℕ} 0 1 = cc (ap (λ a. a .related) e) in omega arith), λ e. absurd (never (sym e)))
+decided true m = (λ e. absurd (let z : _≡_ {A = ℕ} 0 1 = cc (ap (λ a. a .related) e) in omega arith), λ e. clash refl e)
 decided false m = (λ e. refl, λ e. refl)
 
 pub thirteen-exactly : (p q : Place) → (relateOf p q ≡ refused) ↔ ((isPlace p && isPlace q) ≡ false)

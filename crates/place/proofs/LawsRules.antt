@@ -4,7 +4,6 @@ use mathlib.Core.Bool.{Bool, true, false, not, cond, _&&_, _||_}
 use mathlib.Core.List.{List, [], _∷_}
 use Rattle.de9im.specs.declared.dimensions.Dimensions.{Dimensions}
 use Rattle.de9im.specs.declared.dimensions.Dimensions.the-variants.{Empty, ZeroDimensional, OneDimensional, TwoDimensional}
-use Rattle.de9im.specs.Matrix.{Matrix}
 use Rattle.de9im.specs.Text.{cellLetterOf}
 use Rattle.place.specs.Rules.{isTwo, printed}
 

@@ -1,24 +1,20 @@
 -- Every cell's letter is the dimension of the set of points that lie in both parts: two boxes, two points, a point and a box,
 -- over any dense linear order without ends. Assumes nothing.
-use mathlib.Core.Path.{_≡_, refl, sym, _∙_, subst}
-use mathlib.Core.Bool.{Bool, true, false, not, cond, _&&_, _||_, and-false}
+use mathlib.Core.Path.{_≡_}
+use mathlib.Core.Bool.{Bool, true, false, not, cond, _&&_, _||_}
 use mathlib.Core.Logic.{_⊎_, inl, inr}
 use borrow.Author.Tests.{not-true, not-false}
-use Rattle.de9im.specs.declared.coordinate_position.CoordPos.{CoordPos}
 use Rattle.de9im.specs.declared.coordinate_position.CoordPos.the-variants.{Inside as I, OnBoundary as B, Outside as E}
-use Rattle.de9im.specs.declared.dimensions.Dimensions.{Dimensions}
 use Rattle.de9im.specs.declared.dimensions.Dimensions.the-variants.{Empty, ZeroDimensional, OneDimensional, TwoDimensional}
-use Rattle.place.specs.Order.{Order, le}
-use Rattle.place.specs.Shapes.{Span, Spot, Area, Shape, point, box}
-use Rattle.place.specs.Ranges.{inClosed, inOpen, meet, overlap, onBoth, shareEnd, shareX, shareY, inside, insideOrOn, same}
-use Rattle.place.specs.Rules.{isTwo, within, cellII, cellIE, cellBE, cellIB, cellBB, apart}
-use Rattle.place.specs.Sets.{Below, AtMost, Strictly, Closed, InOpen, InClosed, Level, At, Part, Common, Long, Wide, Proper, spot}
+use Rattle.place.specs.Order.{Order}
+use Rattle.place.specs.Shapes.{Span, Spot, Area, box}
+use Rattle.place.specs.Ranges.{inClosed, inOpen, meet, overlap, onBoth, shareEnd, shareX, shareY}
+use Rattle.place.specs.Rules.{within, apart}
+use Rattle.place.specs.Sets.{AtMost, Closed, InClosed, Part, Common, Long, Wide, spot}
 use Rattle.place.specs.Sets.{HasPoint, HasSide, across, upright, HasArea, OfDimension, Dense}
-use Rattle.place.proofs.LawsRules.{two-if, two-unless}
-use Rattle.place.proofs.LawsDense as dense
-use Rattle.place.proofs.LawsDense.{told, clash, span, at-self, lt-le, le-lt, clear, top}
+use Rattle.place.proofs.LawsBool.{clash, both, one-false, neither, all, either}
+use Rattle.place.proofs.LawsDense.{span, le-lt, clear, top}
 use Rattle.place.proofs.LawsRanges as ranges
-use Rattle.place.proofs.LawsRanges.{both, one-false, neither, all, either}
 
 module _ {A : Type 0} (o : Order A) (d : Dense o) where
   -- no open box lies in the boundary of a box

@@ -2,19 +2,20 @@
 -- to try. Each coordinate goes to the number of coordinates below it on its axis. Assumes nothing.
 use Prim.Native.Nat.{ℕ, _+_, _≤_, _<_}
 use mathlib.Core.Path.{_≡_, refl, sym, _∙_}
-use mathlib.Core.Bool.{Bool, true, false, not, cond, _||_}
+use mathlib.Core.Bool.{true, cond}
 use native.Mathlib.Omega.{arith}
-use borrow.Author.Tests.{lt-ltb, le-ltb, eq-eqb, ne-eqb}
+use borrow.Author.Tests.{lt-ltb, le-ltb}
 use lib.Dec.{ltb, eqb}
 use Rattle.place.specs.Order.{Order, floats}
-use Rattle.place.specs.Shapes.{Span, Spot, Area, Shape, point, box, mapAxes, shapeOf}
+use Rattle.place.specs.Shapes.{Span, Shape, point, box, mapAxes, shapeOf}
 use Rattle.place.specs.declared.places.Place.{Place}
 use Rattle.place.specs.Places.{isPlace}
 use Rattle.place.specs.Rules.{related}
 use Rattle.place.specs.Numbers.{numbers, inPlane}
 use Rattle.place.specs.Sets.{Below, AtMost, Proper, Dense}
+use Rattle.place.proofs.LawsBool.{told}
 use Rattle.place.proofs.LawsAlike.{Alike, alike}
-use Rattle.place.proofs.LawsDense.{told, at-self, lt-le}
+use Rattle.place.proofs.LawsDense.{at-self, lt-le}
 use Rattle.place.proofs.LawsNumbers.{apart-or-equal, numbers-dense}
 use Rattle.place.proofs.LawsPlane.{in-plane, proper}
 
@@ -173,7 +174,8 @@ module _ {A : Type 0} (o : Order A) (d : Dense o) where
 
 -- so it is for any two places of f64 coordinates
 pub floats-grid : (p q : Place) (hp : isPlace p ≡ true) (hq : isPlace q ≡ true)
-    → (r : Pair numbers numbers-dense (inPlane p) (inPlane q)) × (related floats (shapeOf p) (shapeOf q) ≡ related wholes (r .one) (r .other))
+    → (r : Pair numbers numbers-dense (inPlane p) (inPlane q))
+    × (related floats (shapeOf p) (shapeOf q) ≡ related wholes (r .one) (r .other))
 floats-grid p q hp hq =
     let r = grid-enough numbers numbers-dense (inPlane p) (inPlane q) (proper p hp) (proper q hq) in
     (r, sym (in-plane p q hp hq) ∙ r .matrix)

@@ -10,7 +10,6 @@ use Rattle.de9im.specs.Text.{cellLetterOf}
 use Rattle.place.specs.declared.places.Corner.{Corner}
 use Rattle.place.specs.declared.places.Place.{Place}
 use Rattle.place.specs.declared.places.Place.the-variants as P
-use Rattle.place.specs.declared.relate.PlaceAnswer.{PlaceAnswer}
 use Rattle.place.specs.Places.{finite, isPlace}
 use Rattle.place.specs.Rules.{printed, boxBox, related}
 use Rattle.place.specs.Relate.{accepted, relateOf}

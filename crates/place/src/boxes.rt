@@ -13,7 +13,7 @@ ghost use mathlib.Core.Bool.{cond};
 ghost use mathlib.Core.Path.{_≡_};
 ghost use Rattle.place.specs.Order.{floats};
 ghost use Rattle.place.specs.Shapes.{areaOf};
-ghost use Rattle.place.specs.Ranges.{inClosed, inOpen, meet, overlap, onBoth, shareX, shareY};
+ghost use Rattle.place.specs.Ranges.{inOpen, meet, overlap, onBoth, shareX, shareY};
 ghost use Rattle.place.specs.Rules.{within, apart, cellBB, boxBox};
 
 pub fn pick(t: bool, d: Dimensions, e: Dimensions) -> Dimensions
