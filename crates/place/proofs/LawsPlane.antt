@@ -1,9 +1,9 @@
 -- For any two places of f64 coordinates: every cell that `relate` answers is the dimension of the set of points, in the plane
 -- of the numbers m · 2 ^ e, that lie in both parts. Assumes nothing.
 use mathlib.Core.Path.{_≡_, refl, _∙_}
-use mathlib.Core.Bool.{true, _&&_}
+use mathlib.Core.Bool.{true}
 use mathlib.Core.Logic.{_↔_}
-use lib.Ieee.{Float, nan, inf, fin, lt}
+use lib.Ieee.{Float, nan, inf, fin}
 use Rattle.de9im.specs.declared.coordinate_position.CoordPos.{CoordPos}
 use Rattle.de9im.specs.declared.dimensions.Dimensions.the-variants.{Empty}
 use Rattle.de9im.specs.Matrix.{cellOf}
@@ -11,11 +11,12 @@ use Rattle.place.specs.declared.places.Place.{Place}
 use Rattle.place.specs.declared.places.Place.the-variants as P
 use Rattle.place.specs.Order.{floats}
 use Rattle.place.specs.Shapes.{mapShape, shapeOf}
-use Rattle.place.specs.Places.{finite, finiteCorner, minBelowMax, isPlace}
+use Rattle.place.specs.Places.{finite, isPlace}
 use Rattle.place.specs.Rules.{related}
 use Rattle.place.specs.Sets.{Common, Proper, HasPoint, OfDimension}
 use Rattle.place.specs.Numbers.{floatOf, numbers, numberOf, inPlane}
-use Rattle.place.proofs.LawsBool.{clash, both}
+use Rattle.place.proofs.LawsBool.{clash}
+use Rattle.place.proofs.LawsPlaces.{point-place, box-place}
 use Rattle.place.proofs.LawsAlike.{kept}
 use Rattle.place.proofs.LawsMeaning as meaning
 use Rattle.place.proofs.LawsNumbers.{numbers-dense}
@@ -28,31 +29,22 @@ back (inf s) h = clash h refl
 back (fin s m e) h = refl
 
 same-plane : (p : Place) → isPlace p ≡ true → mapShape floatOf (inPlane p) ≡ shapeOf p
-unfolding isPlace
 same-plane (P.Point c) h =
-    let f = both (finite (c .x)) (finite (c .y)) h in
-    rw (back (c .x) (f .0), back (c .y) (f .1)) refl
+    let f = point-place c h in
+    rw (back (c .x) (f .x), back (c .y) (f .y)) refl
 same-plane (P.Box b) h =
-    let lo = b .min in
-    let hi = b .max in
-    let k = both (finiteCorner lo && finiteCorner hi) (minBelowMax b) h in
-    let f = both (finiteCorner lo) (finiteCorner hi) (k .0) in
-    let l = both (finite (lo .x)) (finite (lo .y)) (f .0) in
-    let u = both (finite (hi .x)) (finite (hi .y)) (f .1) in
-    rw (back (lo .x) (l .0), back (lo .y) (l .1), back (hi .x) (u .0), back (hi .y) (u .1)) refl
+    let f = box-place b h in
+    rw
+    (back (b .min .x) (f .min-x), back (b .min .y) (f .min-y), back (b .max .x) (f .max-x), back (b .max .y) (f .max-y))
+    refl
 
 pub proper : (p : Place) → isPlace p ≡ true → Proper numbers (inPlane p)
-unfolding isPlace
 proper (P.Point c) h = tt
 proper (P.Box b) h =
-    let lo = b .min in
-    let hi = b .max in
-    let k = both (finiteCorner lo && finiteCorner hi) (minBelowMax b) h in
-    let f = both (finiteCorner lo) (finiteCorner hi) (k .0) in
-    let l = both (finite (lo .x)) (finite (lo .y)) (f .0) in
-    let u = both (finite (hi .x)) (finite (hi .y)) (f .1) in
-    let m = both (lt (lo .x) (hi .x)) (lt (lo .y) (hi .y)) (k .1) in
-    (rw (back (lo .x) (l .0), back (hi .x) (u .0)) (m .0), rw (back (lo .y) (l .1), back (hi .y) (u .1)) (m .1))
+    let f = box-place b h in (
+      rw (back (b .min .x) (f .min-x), back (b .max .x) (f .max-x)) (f .long-x),
+      rw (back (b .min .y) (f .min-y), back (b .max .y) (f .max-y)) (f .long-y),
+    )
 
 module _ (p q : Place) (hp : isPlace p ≡ true) (hq : isPlace q ≡ true) where
   -- the matrix of the floats is the matrix in the plane

@@ -6,7 +6,6 @@ use mathlib.Core.Bool.{Bool, true, false, cond, _&&_, and-false}
 use mathlib.Core.Logic.{_↔_}
 use native.Mathlib.Omega.{arith}
 use lib.ListN.{getD}
-use lib.Ieee.{lt}
 use Rattle.de9im.specs.declared.dimensions.Dimensions.the-variants.{TwoDimensional}
 use Rattle.de9im.specs.declared.refusal.Refusal.the-variants.{NotAPlace}
 use Rattle.de9im.specs.Dimension.{dimNo}
@@ -17,10 +16,11 @@ use Rattle.place.specs.declared.places.Place.{Place}
 use Rattle.place.specs.declared.places.Place.the-variants as P
 use Rattle.place.specs.Order.{floats}
 use Rattle.place.specs.Shapes.{shapeOf}
-use Rattle.place.specs.Places.{finite, finiteCorner, minBelowMax, isPlace}
+use Rattle.place.specs.Places.{isPlace}
 use Rattle.place.specs.Rules.{printed, boxBox, pointPoint, related}
 use Rattle.place.specs.Relate.{accepted, refused, relateOf}
-use Rattle.place.proofs.LawsBool.{clash, both}
+use Rattle.place.proofs.LawsBool.{clash}
+use Rattle.place.proofs.LawsPlaces.{point-place, box-place}
 use Rattle.place.proofs.LawsFloats.{eq-sym, eq-self, lt-self}
 use Rattle.place.proofs.LawsExchange.{ee-two, exchanged}
 
@@ -66,26 +66,20 @@ itself (P.Point c) = "0FFFFFFF2"
 itself (P.Box b) = "2FFF1FFF2"
 
 self-matrix : (p : Place) → isPlace p ≡ true → related floats (shapeOf p) (shapeOf p) ≡ printed (itself p)
-unfolding isPlace related boxBox pointPoint cellLetterOf
+unfolding related boxBox pointPoint cellLetterOf
 self-matrix (P.Point c) h =
-    let f = both (finite (c .x)) (finite (c .y)) h in
-    rw (eq-self (c .x) (f .0), eq-self (c .y) (f .1)) refl
+    let f = point-place c h in
+    rw (eq-self (c .x) (f .x), eq-self (c .y) (f .y)) refl
 self-matrix (P.Box b) h =
-    let lo = b .min in
-    let hi = b .max in
-    let k = both (finiteCorner lo && finiteCorner hi) (minBelowMax b) h in
-    let f = both (finiteCorner lo) (finiteCorner hi) (k .0) in
-    let l = both (finite (lo .x)) (finite (lo .y)) (f .0) in
-    let u = both (finite (hi .x)) (finite (hi .y)) (f .1) in
-    let m = both (lt (lo .x) (hi .x)) (lt (lo .y) (hi .y)) (k .1) in
+    let f = box-place b h in
     simp (
-      m .0,
-      m .1,
+      f .long-x,
+      f .long-y,
       lt-self,
-      eq-self (b .min .x) (l .0),
-      eq-self (b .min .y) (l .1),
-      eq-self (b .max .x) (u .0),
-      eq-self (b .max .y) (u .1),
+      eq-self (b .min .x) (f .min-x),
+      eq-self (b .min .y) (f .min-y),
+      eq-self (b .max .x) (f .max-x),
+      eq-self (b .max .y) (f .max-y),
     )
 
 pub with-itself : (p : Place) → isPlace p ≡ true → relateOf p p ≡ accepted (printed (itself p))
