@@ -199,6 +199,10 @@ fn build_far_side(library: &Path) {
     println!("cargo:rerun-if-changed={}", source.display());
     println!(
         "cargo:rerun-if-changed={}",
+        here.join("far/bare.h").display()
+    );
+    println!(
+        "cargo:rerun-if-changed={}",
         header.join("misonkandi.h").display()
     );
     println!("cargo:rerun-if-env-changed=MISONKANDI_CLANG");

@@ -44,6 +44,12 @@ uint32_t misonkandi_set_at_least(uint8_t cells[9], uint32_t a, uint32_t b, uint8
 /* The matrix with the two geometries exchanged. */
 void misonkandi_transpose(uint8_t cells[9]);
 
+/* The matrix of two places. Kind 0 is a point, its first corner: the second corner's numbers are not looked at. Kind 1 is a
+ * box of min and max corner. 0 and the cells written, or refusal 13 (3328) and nothing written: a coordinate that isn't
+ * finite, a box without min < max on both axes, or a kind above 1. */
+uint32_t misonkandi_relate_places(uint32_t kind_a, double ax, double ay, double bx, double by, uint32_t kind_b, double cx,
+                                  double cy, double dx, double dy, uint8_t cells[9]);
+
 #ifdef __cplusplus
 }
 #endif

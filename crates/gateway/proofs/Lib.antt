@@ -1,1 +1,2 @@
 pub mod LawsWords
+pub mod LawsPlaces

@@ -13,10 +13,15 @@ fn nibble(b: u8) -> u8
     }
 }
 
+// A byte from its two digits.
+pub(crate) fn byte(high: u8, low: u8) -> u8 {
+    16 * nibble(high) + nibble(low)
+}
+
 pub(crate) fn decoded(line: [u8; 73]) -> Record {
     let mut out = [0u8; 36];
     for k in 0..36usize {
-        out[k] = 16 * nibble(line[2 * k]) + nibble(line[2 * k + 1]);
+        out[k] = byte(line[2 * k], line[2 * k + 1]);
     }
     out
 }

@@ -1,6 +1,8 @@
-// Replays stored answers of the crate geo 0.33.1 against the library's C interface and prints how many were replayed and
-// how many differ. The answers stand in the file `stdin`, whose head says how it was made and how to make it again.
+// Replays stored answers of the crate geo 0.33.1, and GEOS's of points and boxes, against the library's C interface and
+// prints how many were replayed and how many differ. The answers stand in the file `stdin`, where lines that begin with '#'
+// say how it was made and how to make it again.
 mod line;
+mod place_sample;
 mod sample;
 
 use libc::STDIN_FILENO;
@@ -40,8 +42,18 @@ fn skip_line() {
     }
 }
 
+// The rest of a line that begins with 'G'.
+fn replay_places() -> bool {
+    let mut line = [0u8; 43];
+    let n = io::read_full(STDIN_FILENO, &mut line);
+    (n == 43) & place_sample::agrees(place_sample::decoded(line))
+}
+
 // A sample whose kind was read already; a line that is cut short agrees with nothing.
 fn replay_one(kind: u8) -> bool {
+    if kind == b'G' {
+        return replay_places();
+    }
     let mut line = [0u8; 73];
     let n = io::read_full(STDIN_FILENO, &mut line);
     (n == 73) & sample::agrees(kind, line::decoded(line))

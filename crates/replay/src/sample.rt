@@ -6,7 +6,7 @@ use crate::line::text;
 use crate::line::wide;
 use crate::line::word;
 
-fn same_nine(a: [u8; 9], b: [u8; 9]) -> bool {
+pub(crate) fn same_nine(a: [u8; 9], b: [u8; 9]) -> bool {
     let mut same = true;
     for k in 0..9usize {
         same = same & (a[k] == b[k]);

@@ -1,0 +1,6 @@
+// Points and boxes: their matrix by comparing corners, and nothing else. Nothing is computed with a coordinate.
+pub mod boxes;
+pub mod places;
+pub mod points;
+pub mod ranges;
+pub mod relate;

@@ -1,0 +1,59 @@
+// `relate`: the matrix of two places, or the refusal.
+use crate::boxes::box_box;
+use crate::places::Place;
+use crate::places::is_place;
+use crate::points::point_box;
+use crate::points::point_point;
+use de9im::cells::Cells;
+use de9im::cells::to_cells;
+use de9im::intersection_matrix::IntersectionMatrix;
+use de9im::intersection_matrix::transposed;
+use de9im::refusal::Refusal;
+ghost use mathlib.Core.Path.{_≡_};
+ghost use Rattle.place.specs.Order.{floats};
+ghost use Rattle.place.specs.Shapes.{shapeOf};
+ghost use Rattle.place.specs.Rules.{related};
+ghost use Rattle.place.specs.Relate.{relateOf};
+
+pub enum Related {
+    Accepted,
+    Refused(Refusal),
+}
+
+// The answer, with the matrix beside it as nine flat numbers; nine zeros beside a refusal.
+pub struct PlaceAnswer {
+    pub related: Related,
+    pub cells: Cells,
+}
+
+// Box with point is the transpose of point in box, so that rule is written once.
+fn matrix(p: Place, q: Place) -> IntersectionMatrix
+    ensures { λ r. ⌜ r ≡ related floats (shapeOf p) (shapeOf q) ⌝ }
+{
+    match p {
+        Place::Point(c) => match q {
+            Place::Point(d) => point_point(c, d),
+            Place::Box(b) => point_box(c, b),
+        },
+        Place::Box(a) => match q {
+            Place::Point(d) => transposed(point_box(d, a)),
+            Place::Box(b) => box_box(a, b),
+        },
+    }
+}
+
+pub fn relate(p: Place, q: Place) -> PlaceAnswer
+    ensures { λ r. ⌜ r ≡ relateOf p q ⌝ }
+{
+    if is_place(p) & is_place(q) {
+        PlaceAnswer {
+            related: Related::Accepted,
+            cells: to_cells(matrix(p, q)),
+        }
+    } else {
+        PlaceAnswer {
+            related: Related::Refused(Refusal::NotAPlace),
+            cells: [0u8; 9],
+        }
+    }
+}

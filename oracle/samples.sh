@@ -1,0 +1,12 @@
+#!/bin/sh
+# Makes crates/replay/stdin again: the crate's answers, then GEOS's.
+set -eu
+cd "$(dirname "$0")"
+file=../crates/replay/stdin
+new=$(mktemp)
+trap 'rm -f "$new"' EXIT
+cargo run --quiet --release --bin sample >"$new"
+sh geos/run.sh --sample >>"$new"
+cat "$new" >"$file"
+printf '%s replayed, 0 differ\n' "$(grep -vc '^#' "$file")" >../crates/replay/stdout
+cat ../crates/replay/stdout
