@@ -1,9 +1,12 @@
 -- Document 01: "n times dx, dy (four bytes each, signed) and a label", "each end in turn 8, label kind 7, codes 6, sides 7".
-use Prim.Native.Nat.{ℕ, zero, suc, _+_}
+use Prim.Native.Nat.{ℕ, zero, suc, _+_, _%_, _/_}
 use mathlib.Core.Bool.{cond}
 use mathlib.Core.List.{List, [], _∷_}
+use lib.Dec.{eqb, ltb}
+use lib.ListN.{length}
 use Rattle.de9im.specs.declared.refusal.Refusal.{Refusal}
 use Rattle.de9im.specs.declared.refusal.Refusal.the-variants.{Direction}
+use Rattle.de9im.specs.declared.refusal.Refusal.the-variants as R
 use Rattle.star.specs.declared.«edge_end».Dir.{Dir}
 use Rattle.star.specs.declared.«edge_end».EdgeEnd.{EdgeEnd}
 use Rattle.star.specs.Ends.{badDir}
@@ -47,3 +50,7 @@ readEnds (suc n) s at = thenEnds (endAt s at) (readEnds n s (at + 15))
 abbrev pub endsOf : EndsAnswer → List EdgeEnd → Ends
 endsOf A.Read es = good es
 endsOf (A.Refused r) es = bad r
+
+-- bytes that are all ends: fifteen each, at most 32
+unfoldable pub endsCall : List ℕ → Ends
+endsCall s = cond (eqb (length s % 15) 0) (cond (ltb 32 (length s / 15)) (bad R.Ends) (readEnds (length s / 15) s 0)) (bad R.Length)

@@ -11,9 +11,9 @@ use star::label::Label;
 use star::label::blank;
 ghost use mathlib.Core.Path.{_≡_};
 ghost use mathlib.Core.Bool.{cond};
-ghost use Prim.Native.Nat.{_+_, _*_, _≤_};
+ghost use Prim.Native.Nat.{_+_, _*_, _/_, _≤_};
 ghost use lib.ListN.{length, take};
-ghost use Rattle.plan.specs.EndBytes.{dirAt, endWith, endAt, readEnds, endsOf};
+ghost use Rattle.plan.specs.EndBytes.{dirAt, endWith, endAt, readEnds, endsOf, endsCall};
 
 pub enum EndRead {
     Is(EdgeEnd),
@@ -103,5 +103,28 @@ pub(crate) fn ends_at(s: &[u8], at: usize, n: usize) -> EndsRead
     EndsRead {
         answer: EndsAnswer::Read,
         ends: ends,
+    }
+}
+
+// Bytes that are all ends, as a star or a bundle call takes them: no whole ends are 4, more than 32 are 5.
+pub fn read_ends(s: &[u8]) -> EndsRead
+    ensures { λ r. ⌜ (endsCall (now (s .entry)) ≡ endsOf (r .answer) (take (length (now (s .entry)) / 15) (r .ends))) × (length (r .ends) ≡ 32) ⌝ }
+{
+    let n = s.len() / 15;
+    if s.len() % 15 != 0 {
+        return unread(Refusal::Length);
+    }
+    if 32 < n {
+        return unread(Refusal::Ends);
+    }
+    ends_at(s, 0, n)
+}
+
+fn unread(r: Refusal) -> EndsRead
+    ensures { λ x. ⌜ (x .answer ≡ EndsAnswer.Refused r) × (length (x .ends) ≡ 32) ⌝ }
+{
+    EndsRead {
+        answer: EndsAnswer::Refused(r),
+        ends: [no_end(); 32],
     }
 }
