@@ -1,2 +1,3 @@
 pub mod LawsWords
+pub mod LawsStars
 pub mod LawsPlaces
