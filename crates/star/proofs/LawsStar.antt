@@ -23,7 +23,7 @@ unfolding scan
 scan-length f h s [] = refl
 scan-length f h s (x ∷ xs) = ap suc (scan-length f h (h s x) xs)
 
-walked-length : (xs : List Label) → length (walkedOf xs) ≡ length xs
+pub walked-length : (xs : List Label) → length (walkedOf xs) ≡ length xs
 walked-length xs = ap length (walked-both xs) ∙ scan-length _ _ _ xs
 
 pub looked-missing : (xs : List Label) (w : Looked) → w ≡ lookedOf xs → (foundMissing (w .a) || foundMissing (w .b)) ≡ missingLeft xs

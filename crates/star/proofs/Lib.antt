@@ -14,3 +14,4 @@ pub mod LawsJoin
 pub mod LawsCompleted
 pub mod Examples
 pub mod LawsUnique
+pub mod LawsFew

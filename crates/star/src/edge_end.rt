@@ -26,18 +26,6 @@ pub enum Order {
     After,
 }
 
-fn west(d: Dir) -> bool
-    ensures { λ r. ⌜ r ≡ ltZ (d .dx) (pos 0) ⌝ }
-{
-    d.dx < 0
-}
-
-fn south(d: Dir) -> bool
-    ensures { λ r. ⌜ r ≡ ltZ (d .dy) (pos 0) ⌝ }
-{
-    d.dy < 0
-}
-
 fn quad_of(x: bool, y: bool) -> u8
     ensures { λ r. ⌜ r ≡ quad x y ⌝ }
 {
@@ -51,7 +39,7 @@ fn quad_of(x: bool, y: bool) -> u8
 pub fn quadrant(d: Dir) -> u8
     ensures { λ r. ⌜ r ≡ quadOf d ⌝ }
 {
-    quad_of(west(d), south(d))
+    quad_of(d.dx < 0, d.dy < 0)
 }
 
 fn pick_order(t: bool, a: Order, b: Order) -> Order

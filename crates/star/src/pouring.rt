@@ -1,7 +1,12 @@
 // Pouring: what a node and what the labels around it raise in the matrix. A none skips its cell.
+use crate::edge_end::EdgeEnd;
+use crate::edge_end_bundle_star::StarAnswer;
+use crate::edge_end_bundle_star::star_of;
 use crate::label::Label;
 use crate::topology_position::Side;
 use crate::topology_position::position;
+use de9im::cells::Cells;
+use de9im::cells::to_cells;
 use de9im::coordinate_position::Position;
 use de9im::dimensions::Dimensions;
 use de9im::intersection_matrix::IntersectionMatrix;
@@ -9,6 +14,8 @@ use de9im::intersection_matrix::set_at_least_if_in_both;
 ghost use mathlib.Core.Path.{_≡_};
 ghost use Prim.Native.Nat.{_≤_};
 ghost use lib.ListN.{take};
+ghost use Rattle.star.specs.Calls.{pouredStar};
+ghost use Rattle.star.specs.Ends.{Sound};
 ghost use Rattle.star.specs.Pouring.{pourNode, pourSide, pourLabel, pourLabels};
 
 // A node raises (on A, on B) to 0.
@@ -52,4 +59,44 @@ pub fn pour_labels(m: IntersectionMatrix, labels: [Label; 32], n: usize) -> Inte
         i += 1;
     }
     out
+}
+
+// A node: where it lies on each geometry, and in each area, none for a geometry that is no area.
+pub struct Node {
+    pub on_a: Position,
+    pub on_b: Position,
+    pub area_a: Position,
+    pub area_b: Position,
+}
+
+// The answer to a star, with the matrix beside it as nine flat numbers.
+pub struct PouredStar {
+    pub answer: StarAnswer,
+    pub cells: Cells,
+}
+
+// A node and its star, for ends that are checked, poured straight into a matrix. A refusal hands the matrix back.
+pub fn pour_star(m: IntersectionMatrix, node: Node, ends: [EdgeEnd; 32], n: usize) -> PouredStar
+    requires { ⌜ Sound ends n ⌝ }
+    ensures { λ r. ⌜ r ≡ pouredStar m node (take n ends) ⌝ }
+{
+    let pa = node.area_a;
+    let pb = node.area_b;
+    let a = node.on_a;
+    let b = node.on_b;
+    let s = star_of(ends, n, pa, pb);
+    let answer = s.answer;
+    let labels = s.labels;
+    let count = s.count;
+    let StarAnswer::Completed = answer else {
+        return PouredStar {
+            answer,
+            cells: to_cells(m),
+        };
+    };
+    let raised = pour_labels(pour_node(m, a, b), labels, count);
+    PouredStar {
+        answer: StarAnswer::Completed,
+        cells: to_cells(raised),
+    }
 }

@@ -1,0 +1,63 @@
+-- A star has no more bundles than ends, and its answer holds the completed labels. Assumes nothing.
+use Prim.Native.Nat.{ℕ, suc, _+_, _-_, _≤_}
+use mathlib.Core.Path.{_≡_, refl, sym, ap, _∙_}
+use mathlib.Core.Bool.{Bool, true, false, cond}
+use mathlib.Core.List.{List, [], _∷_, map}
+use native.Mathlib.Omega.{arith}
+use lib.ListN.{length, take, replicate, length-map}
+use lib.Seq.{take-at}
+use Rattle.de9im.specs.declared.«coordinate_position».Position.{Position}
+use Rattle.star.specs.declared.«edge_end».Dir.{Dir}
+use Rattle.star.specs.declared.«edge_end».EdgeEnd.{EdgeEnd}
+use Rattle.star.specs.declared.«edge_end».Order.{Order}
+use Rattle.star.specs.declared.«edge_end».Order.the-variants.{Before, Same, After}
+use Rattle.star.specs.declared.label.Label.{Label}
+use Rattle.star.specs.declared.«edge_end_bundle_star».StarAnswer.the-variants.{Completed, Refused}
+use Rattle.de9im.specs.declared.refusal.Refusal.the-variants.{MissingLeft}
+use Rattle.star.specs.Label.{blank, padded}
+use Rattle.star.specs.Direction.{orderOf}
+use Rattle.star.specs.Star.{putBy, insertDir, dirsFrom, dirsOf, bundleAt, bundlesOf, joinedOf}
+use Rattle.star.specs.Bundle.{joinOf}
+use Rattle.star.specs.Completing.{missingLeft, walkedOf, filledOf, completedOf}
+use Rattle.star.specs.Calls.{refusedStar, completedStar, starOf}
+use Rattle.star.proofs.LawsStar.{walked-length}
+
+put-length : (o : Order) (d x : Dir) (xs r : List Dir) → length r ≤ suc (length xs) → length (putBy o d x xs r) ≤ suc (length (x ∷ xs))
+put-length Before d x xs r h = omega arith
+put-length Same d x xs r h = omega arith
+put-length After d x xs r h = omega arith
+
+insert-length : (d : Dir) (xs : List Dir) → length (insertDir d xs) ≤ suc (length xs)
+unfolding insertDir
+insert-length d [] = omega arith
+insert-length d (x ∷ xs) = put-length (orderOf d x) d x xs (insertDir d xs) (insert-length d xs)
+
+from-length : (es : List EdgeEnd) (ds : List Dir) → length (dirsFrom ds es) ≤ length ds + length es
+unfolding dirsFrom
+from-length [] ds = omega arith
+from-length (e ∷ es) ds = omega (arith, from-length es (insertDir (e .dir) ds), insert-length (e .dir) ds)
+
+pub joined-few : (es : List EdgeEnd) → length (joinedOf es) ≤ length es
+joined-few es = omega (arith, from-length es [], length-map (bundlesOf es) joinOf, length-map (dirsOf es) (bundleAt es))
+
+completed-length : (pa pb : Position) (ls : List Label) → length (completedOf pa pb ls) ≡ length ls
+unfolding filledOf
+completed-length pa pb ls = length-map (walkedOf ls) _ ∙ walked-length ls
+
+-- what an answer that is no refusal holds
+module _ (es : List EdgeEnd) (pa pb : Position) (e : starOf es pa pb .answer ≡ Completed) where
+  accepted : (b : Bool) → missingLeft (joinedOf es) ≡ b → missingLeft (joinedOf es) ≡ false
+  unfolding completedStar
+  accepted false m = m
+  accepted true m = let f : Refused MissingLeft ≡ Completed = sym (rw m refl) ∙ e in let z : _≡_ {A = ℕ} 0 1 = cc in absurd (omega arith)
+
+  pub star-count : starOf es pa pb .count ≤ length es
+  unfolding completedStar
+  star-count =
+      rw (accepted (missingLeft (joinedOf es)) refl) (omega (arith, completed-length pa pb (joinedOf es), joined-few es))
+
+  pub star-labels : take (starOf es pa pb .count) (starOf es pa pb .labels) ≡ completedOf pa pb (joinedOf es)
+  unfolding completedStar
+  star-labels =
+      rw (accepted (missingLeft (joinedOf es)) refl)
+      (take-at (completedOf pa pb (joinedOf es)) (replicate (32 - length (completedOf pa pb (joinedOf es))) blank) (length (completedOf pa pb (joinedOf es))) refl)
