@@ -26,7 +26,11 @@ pub mod compare;
 pub mod sample;
 
 mod asked;
+mod asked_star;
 mod ours;
 mod pieces;
+mod plan_pieces;
 mod random;
 mod rule;
+mod rule_plan;
+mod rule_star;
