@@ -156,7 +156,7 @@ public class Stars {
         return switch (foretold) {
             case "same" -> "EdgeEndBundleStar, updateIM: as document 01";
             case "collapse" -> "EdgeEndBundleStar, updateIM: collapsed by a bundle that isn't the last (document 01: not)";
-            case "conflict" -> "EdgeEndBundleStar: throws on a side conflict (document 01 walks on)";
+            case "conflict" -> "EdgeEndBundleStar: throws on a side conflict (document 01 compares no sides)";
             case "left" -> "EdgeEndBundleStar: throws on a left without a right (document 01 walks on)";
             case "single" -> "EdgeEndBundleStar: throws on a right without a left (document 01: refusal 9)";
             default -> throw new IllegalArgumentException(foretold);

@@ -95,6 +95,23 @@ pub fn star_of(bytes: &[u8]) -> Result<Star, u32> {
     Ok(star)
 }
 
+/// Ends read beforehand.
+pub fn ready_ends(bytes: &[u8]) -> Result<Vec<EdgeEnd<f64>>, u32> {
+    let mut ends = Vec::new();
+    for_each_end(bytes, |end| ends.push(end))?;
+    Ok(ends)
+}
+
+/// A star of ends read beforehand, completed.
+#[inline]
+pub fn completed(ends: &[EdgeEnd<f64>], graphs: &[GeometryGraph<'_, f64>; 2]) -> LabeledStar {
+    let mut star = Star::new();
+    for end in ends {
+        star.insert(end.clone());
+    }
+    star.into_labeled(&graphs[0], &graphs[1])
+}
+
 /// A geometry in whose area the node lies so, or one that is no area.
 pub fn graph(area_position: Option<CoordPos>) -> GeometryGraph<'static, f64> {
     GeometryGraph::with_area_position(area_position)

@@ -3,7 +3,7 @@
 //! JTS walks and collapses otherwise than document 01, and both differences are written down here, so that its answer to
 //! every star is foretold: which exception, or which labels and which matrix.
 
-use crate::plan_pieces::{Directions, Labels, count, direction, end, ends};
+use crate::plan_pieces::{ALL_DIRECTIONS, Directions, Labels, count, direction, end, ends};
 use crate::random::Random;
 use crate::rule;
 use crate::rule_star::{
@@ -15,7 +15,7 @@ use std::io::{self, Write};
 const SEED: u64 = 1;
 const PAIRS: usize = 120_000;
 const BUNDLES: usize = 120_000;
-const STARS: usize = 120_000;
+const STARS: usize = 150_000;
 const POURED: usize = 120_000;
 
 const HEAD: &str = "\
@@ -75,18 +75,12 @@ fn good(bytes: &[u8]) -> Vec<End> {
 
 /// Two directions, every second time so close to each other, or to the same line, that a rounded product would fail.
 fn pair(random: &mut Random) -> String {
-    let kinds = [
-        Directions::Axes,
-        Directions::Small,
-        Directions::Any,
-        Directions::Extreme,
-    ];
-    let kind = random.pick(&kinds);
+    let kind = random.pick(&ALL_DIRECTIONS);
     let one = direction(random, kind);
     let other = if random.below(2) == 0 {
         close_to(random, one)
     } else {
-        let kind = random.pick(&kinds);
+        let kind = random.pick(&ALL_DIRECTIONS);
         direction(random, kind)
     };
     let line = [0; 7];

@@ -28,6 +28,7 @@ pub mod sample;
 
 mod asked;
 mod asked_star;
+mod bench_plans;
 mod ours;
 mod pieces;
 mod plan_pieces;
@@ -35,3 +36,4 @@ mod random;
 mod rule;
 mod rule_plan;
 mod rule_star;
+mod sample_plans;

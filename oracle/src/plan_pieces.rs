@@ -20,8 +20,6 @@ const BEYOND: [i32; 6] = [
 pub enum Directions {
     /// The four axes, at any length.
     Axes,
-    /// Very few, so that bundles have many ends.
-    Shared,
     /// Parts of −5 to 5: many are multiples of each other.
     Small,
     /// Any parts that are admitted.
@@ -30,9 +28,8 @@ pub enum Directions {
     Extreme,
 }
 
-const ALL_DIRECTIONS: [Directions; 5] = [
+pub const ALL_DIRECTIONS: [Directions; 4] = [
     Directions::Axes,
-    Directions::Shared,
     Directions::Small,
     Directions::Any,
     Directions::Extreme,
@@ -42,29 +39,29 @@ fn any_part(random: &mut Random) -> i32 {
     (random.below(2 * LARGEST_PART as usize + 1) as i64 - LARGEST_PART) as i32
 }
 
-fn part(random: &mut Random, directions: Directions) -> i32 {
-    match directions {
-        Directions::Axes | Directions::Shared => random.pick(&[-1, 0, 1]),
-        Directions::Small => random.below(11) as i32 - 5,
-        Directions::Any => any_part(random),
-        Directions::Extreme => {
-            let size = random.pick(&[0, 1, 2, LARGEST - 2, LARGEST - 1, LARGEST, LARGEST]);
-            size * random.pick(&[-1, 1])
-        }
-    }
+fn extreme_part(random: &mut Random) -> i32 {
+    let size = random.pick(&[0, 1, 2, LARGEST - 2, LARGEST - 1, LARGEST, LARGEST]);
+    size * random.pick(&[-1, 1])
+}
+
+fn on_an_axis(random: &mut Random) -> (i32, i32) {
+    let length = 1 + random.below(LARGEST_PART as usize) as i32;
+    let part = length * random.pick(&[-1, 1]);
+    random.pick(&[(part, 0), (0, part)])
 }
 
 /// A direction that is admitted.
 pub fn direction(random: &mut Random, directions: Directions) -> (i32, i32) {
+    let part = match directions {
+        Directions::Axes => return on_an_axis(random),
+        Directions::Small => |random: &mut Random| random.below(11) as i32 - 5,
+        Directions::Any => any_part,
+        Directions::Extreme => extreme_part,
+    };
     loop {
-        let (dx, dy) = (part(random, directions), part(random, directions));
-        if let Directions::Axes = directions {
-            let length = 1 + random.below(LARGEST_PART as usize) as i32;
-            let sign = random.pick(&[-1, 1]);
-            return random.pick(&[(sign * length, 0), (0, sign * length)]);
-        }
-        if (dx, dy) != (0, 0) {
-            return (dx, dy);
+        let found = (part(random), part(random));
+        if found != (0, 0) {
+            return found;
         }
     }
 }
@@ -139,16 +136,18 @@ pub fn end(direction: (i32, i32), label: &[u8; LABEL_BYTES]) -> [u8; END_BYTES] 
     bytes
 }
 
-/// Ends that are all good.
+/// Ends that are all good. Every third time they share very few directions, so that bundles have many ends.
 pub fn ends(random: &mut Random, count: usize) -> Vec<u8> {
     let directions = random.pick(&ALL_DIRECTIONS);
     let labels = Labels::any(random);
-    let few: [(i32, i32); 3] = std::array::from_fn(|_| direction(random, Directions::Small));
+    let few: [(i32, i32); 3] = std::array::from_fn(|_| direction(random, directions));
+    let shared = random.below(3) == 0;
     let mut ends = Vec::with_capacity(count * END_BYTES);
     for _ in 0..count {
-        let direction = match directions {
-            Directions::Shared => random.pick(&few),
-            _ => direction(random, directions),
+        let direction = if shared {
+            random.pick(&few)
+        } else {
+            direction(random, directions)
         };
         let label = labels.label(random);
         ends.extend(end(direction, &label));

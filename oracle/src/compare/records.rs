@@ -5,6 +5,7 @@ use crate::ours::plans::{PlanCall, PlanOp};
 use crate::plan_pieces::{
     damaged_record, edge_record, ends, good_record, node_record, with_bytes_after,
 };
+use crate::rule_plan;
 
 pub fn compare(run: &mut Run) {
     run.begin("record, good, both kinds");
@@ -41,21 +42,26 @@ fn ask(run: &mut Run, bytes: Vec<u8>) {
 /// A record of kind 2, and nodes of 0 to 3 ends.
 fn small(run: &mut Run) -> Vec<Vec<u8>> {
     let mut records = vec![edge_record(&mut run.random)];
-    for count in 0..4 {
-        let ends = ends(&mut run.random, count);
-        records.push(node_record(&mut run.random, &ends));
-    }
+    records.extend((0..4).map(|count| accepted(run, count)));
     records
+}
+
+/// A node record that refusal 9 doesn't stop either.
+fn accepted(run: &mut Run, count: usize) -> Vec<u8> {
+    loop {
+        let ends = ends(&mut run.random, count);
+        let record = node_record(&mut run.random, &ends);
+        if rule_plan::record(&[0; 9], &record).is_ok() {
+            return record;
+        }
+    }
 }
 
 fn truncated(run: &mut Run) {
     run.begin("record, cut at every byte");
     for _ in 0..run.times(4) {
         let mut records = small(run);
-        for count in [8, 31, 32] {
-            let ends = ends(&mut run.random, count);
-            records.push(node_record(&mut run.random, &ends));
-        }
+        records.extend([8, 31, 32].map(|count| accepted(run, count)));
         for record in records {
             for count in 0..=record.len() {
                 ask(run, record[..count].to_vec());
