@@ -5,10 +5,10 @@
  * A batch is its count (4 bytes), then for each call: operation, a (4), b (4), dimension, count of text bytes, the nine
  * cells with a guard of nine on either side (27), text (24). The answer to each: word (4), the 27 bytes, the text.
  *
- * If the count's highest bit is set, calls on ends, records and reports follow, and the other bits count their bytes. For
- * each: operation, a (4), b (4), offset (8), count of `out` (4), count of `bytes` (4), then out and bytes with a guard of 16
- * before, between and after. The calls are made where these lie, and all comes back with the word in the place of a. HAS_STARS,
- * HAS_RECORDS and HAS_REPORTS say which of them the library has. */
+ * If the count's highest bit is set, calls on ends, records and reports follow, and the other bits count their bytes.
+ * For each: operation, a (4), b (4), offset (8), count of `out` (4), count of `bytes` (4), then out and bytes with a
+ * guard of 16 before, between and after. The calls are made where these lie, and all comes back with the word in the
+ * place of a. HAS_STARS, HAS_RECORDS and HAS_REPORTS say which of them the library has. */
 #include "misonkandi.h"
 
 enum { GUARD = 9, LENT = 27, LONGEST = 24, SENT = 11 + LENT + LONGEST, RETURNED = 4 + LENT + LONGEST, BATCH = 1024 };
@@ -131,7 +131,8 @@ static void answer(const uint8_t *from, uint8_t *to)
         to[i] = (uint8_t)(word >> 8 * i);
 }
 
-static uint32_t plan_call(uint8_t operation, uint32_t a, uint32_t b, size_t offset, uint8_t *out, uint8_t *bytes, size_t count)
+static uint32_t plan_call(uint8_t operation, uint32_t a, uint32_t b, size_t offset, uint8_t *out, uint8_t *bytes,
+                          size_t count)
 {
     (void)a, (void)b, (void)offset, (void)out, (void)bytes, (void)count;
     switch (operation) {

@@ -50,7 +50,7 @@ public class Stars {
         System.exit(stars.report());
     }
 
-    /** A geometry of each kind for A and for B: no area, and areas that hold the node inside, on the edge and outside. */
+    /** A geometry of each kind for A and for B: no area, and areas with the node inside, on the edge and outside. */
     private static GeometryGraph[][] graphs() {
         GeometryFactory factory = new GeometryFactory();
         Geometry[] geometries = {
@@ -155,7 +155,7 @@ public class Stars {
     private static String starKind(String foretold) {
         return switch (foretold) {
             case "same" -> "EdgeEndBundleStar, updateIM: as document 01";
-            case "collapse" -> "EdgeEndBundleStar, updateIM: collapsed by a bundle that isn't the last (document 01: not)";
+            case "collapse" -> "EdgeEndBundleStar, updateIM: collapsed by an earlier bundle (document 01: by the last)";
             case "conflict" -> "EdgeEndBundleStar: throws on a side conflict (document 01 compares no sides)";
             case "left" -> "EdgeEndBundleStar: throws on a left without a right (document 01 walks on)";
             case "single" -> "EdgeEndBundleStar: throws on a right without a left (document 01: refusal 9)";

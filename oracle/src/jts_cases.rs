@@ -1,6 +1,6 @@
 //! Cases for the comparison with JTS, as lines of text: jts/README.md says what they show.
 //!
-//! JTS walks and collapses otherwise than document 01, and both differences are written down here, so that its answer to
+//! JTS walks and collapses otherwise than document 01. Both differences are written down here, so that its answer to
 //! every star is foretold: which exception, or which labels and which matrix.
 
 use crate::plan_pieces::{ALL_DIRECTIONS, Directions, Labels, count, direction, end, ends};
@@ -22,7 +22,7 @@ const HEAD: &str = "\
 # D dx dy dx dy, the quadrants of both, order (-1 the first comes earlier, 0 the same bundle, 1 later)
 # B ends, their joined label
 # S area codes, node codes, ends, what JTS makes of them, completed labels, matrix poured into FFFFFFFF2
-#   same: as document 01; collapse: document 01 leaves other labels; conflict, left, single: JTS throws (labels and matrix -)
+#   same: as document 01; collapse: document 01 has other labels; conflict, left, single: JTS throws, and the rest is -
 # P label, matrix before, matrix after; N node codes, matrix before, matrix after
 # An end is 15 bytes and a label 7, in hex, as in a plan record; - stands for no bytes.
 ";
@@ -42,7 +42,7 @@ pub fn main() {
         write(bundle(&mut random));
     }
     for number in 0..STARS {
-        let ends = if number % 3 == 0 {
+        let ends = if number.is_multiple_of(3) {
             let count = count(&mut random).min(32);
             ends(&mut random, count)
         } else {
@@ -265,7 +265,7 @@ fn star(random: &mut Random, bytes: &[u8]) -> String {
 fn poured(random: &mut Random, number: usize) -> String {
     let before = random.cells();
     let mut after = before;
-    if number % 6 == 0 {
+    if number.is_multiple_of(6) {
         let codes = [1 + random.below(3) as u8, 1 + random.below(3) as u8];
         let on = codes.map(|code| rule_star::position(code).expect("a code of 1 to 3"));
         pour_node(&mut after, on);

@@ -1,4 +1,5 @@
-//! Document 01's rules for plan records and stored reports, and what each call on ends, records and reports must answer.
+//! Document 01's rules for plan records and stored reports, and what each call on ends, records and reports must
+//! answer.
 
 use crate::ours::plans::{LABELS, PlanCall, PlanOp};
 use crate::rule::{self, BAD_CODE};
@@ -46,8 +47,8 @@ pub fn outcome(call: &PlanCall) -> PlanOutcome {
     }
 }
 
-/// "A refusal returns the matrix given (.. bundles and stars: none, and no label), bytes used 0, and no byte of a buffer
-/// differs."
+/// "A refusal returns the matrix given (.. bundles and stars: none, and no label), bytes used 0, and no byte of a
+/// buffer differs."
 fn refused(call: &PlanCall, word: u32) -> PlanOutcome {
     PlanOutcome {
         word,
@@ -117,7 +118,8 @@ pub fn record(cells: &[u8; 9], bytes: &[u8]) -> Result<(u32, [u8; 9]), u32> {
     Ok((2 + promised.len() as u32, cells))
 }
 
-/// ".. length below 7 (kind 1) is 4; 5; length not 7 + 15n is 4; node and area positions 6; each end in turn ..; last 9."
+/// ".. length below 7 (kind 1) is 4; 5; length not 7 + 15n is 4; node and area positions 6; each end in turn ..; last
+/// 9."
 fn pour_node_record(cells: &mut [u8; 9], body: &[u8]) -> Result<(), u32> {
     let [node_a, node_b, area_a, area_b, count, bytes @ ..] = body else {
         return Err(WRONG_LENGTH);

@@ -1,7 +1,7 @@
 //! Document 01's rules for labels, bundles, the direction order, stars and pouring, written down plainly and apart from
 //! the crate.
 //!
-//! Nothing here is clever: a bundle is looked through once for each question, and a star is sorted and cut into bundles.
+//! Nothing here is clever: a bundle is looked through once for each question, a star is sorted and cut into bundles.
 
 use crate::rule::BAD_CODE;
 use std::cmp::Ordering;
@@ -167,8 +167,8 @@ pub fn quadrant(end: &End) -> u8 {
     }
 }
 
-/// "In one quadrant the sign of dx1·dy2 − dy1·dx2 decides: positive means the second comes later, zero means the same
-/// bundle."
+/// "In one quadrant the sign of dx1·dy2 − dy1·dx2 decides: positive means the second comes later, zero means the
+/// same bundle."
 pub fn order(one: &End, other: &End) -> Ordering {
     let [x1, y1, x2, y2] = [one.dx, one.dy, other.dx, other.dy].map(i128::from);
     match quadrant(one).cmp(&quadrant(other)) {

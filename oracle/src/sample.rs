@@ -21,8 +21,9 @@ const ROOM: usize = 12;
 const HEAD: &str = "\
 # Answers of geo 0.33.1's intersection_matrix.rs, compiled unchanged; our library was not asked.
 # Made by, and made again by, in the folder oracle:  cargo run --release --bin sample > FILE
-# A line of P, M, T, R, S or L is that letter and 36 bytes in hex: nine cells given (0, 1, 2, 3 for F, 0, 1, 2), count of
-# text bytes, the text (12 bytes, 00 after its end), the answer (2 bytes, high byte first), nine cells after, three times 00.
+# A line of P, M, T, R, S or L is that letter and 36 bytes in hex: nine cells given (0, 1, 2, 3 for F, 0, 1, 2),
+# count of text bytes, the text (12 bytes, 00 after its end), the answer (2 bytes, high byte first), nine cells
+# after, three times 00.
 # P all eleven predicates: the answer has their bits. M matches: 1, 0 or a refusal. T text in, R raising from text:
 # 0 or a refusal. S set, L set_at_least: the text is position code in A, in B, dimension; 0 or a refusal.
 # A refusal is 256 times its number plus the bad byte's place; the crate has neither, so they are document 01's.

@@ -15,14 +15,16 @@ const RECORD_ROOM: usize = 64;
 const STAR_ENDS: usize = 4;
 
 pub const HEAD: &str = "\
-# N a plan record, 88 bytes in hex: count of its bytes (2), nine cells given, the bytes (64, 00 after the count), the answer
-# (4), nine cells after. The answer is the bytes used, or 80000000 plus a refusal; then the cells after are those given.
-# K a star, 95 bytes in hex: number of ends, the ends (60, 15 each, 00 after the last), area code A, B, the answer (4), the
-# completed labels (28, 7 each, 00 after the last). The answer is the number of labels, or a refusal; then the labels are 00.
-# Numbers have their high byte first. Joining, completing and raising are the crate's edge_end_bundle.rs,
-# edge_end_bundle_star.rs, label.rs, topology_position.rs and intersection_matrix.rs, compiled unchanged; its panic is
-# refusal 9. Document 01 alone gives the reading of bytes, the other refusals, the direction order, the parity of boundary
-# counts, and which cells one label and a node raise.
+# N a plan record, the letter and 88 bytes in hex: count of its bytes (2), nine cells given, the bytes (64, 00 after
+# the count), the answer (4), nine cells after. The answer is the bytes used, or 80000000 plus a refusal; the cells
+# after a refusal are those given. A cell given above 3 is read as 3.
+# K a star, the letter and 95 bytes in hex: number of ends, the ends (60, 15 each, 00 after the last), area code A, B,
+# the answer (4), the completed labels (28, 7 each, 00 after the last). The answer is the number of labels, or a
+# refusal; then the labels are 00. Numbers of several bytes have their high byte first.
+# In N and K joining, completing and raising are the crate's edge_end_bundle.rs, edge_end_bundle_star.rs, label.rs,
+# topology_position.rs and intersection_matrix.rs, compiled unchanged; its panic is refusal 9. Document 01 alone gives
+# the reading of bytes, the other refusals, the direction order, the parity of boundary counts, and which cells one
+# label and a node raise.
 ";
 
 /// About 900 records and 600 stars.
