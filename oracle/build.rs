@@ -130,19 +130,50 @@ fn link(place: &Path) {
     println!("cargo:rustc-link-lib=static=gateway");
 }
 
+/// Functions that a library may not have yet: the name that says so, and those that it then has.
+const PARTS: [(&str, &[&str]); 3] = [
+    ("has_stars", &["misonkandi_bundle", "misonkandi_star"]),
+    ("has_records", &["misonkandi_record"]),
+    (
+        "has_reports",
+        &["misonkandi_read_report", "misonkandi_write_report"],
+    ),
+];
+
+/// The parts whose functions the archive has. A name stands in its symbol table with a zero after it.
+fn parts(archive: &Path) -> Vec<&'static str> {
+    let bytes = fs::read(archive).expect("the library can be read");
+    let has = |name: &&str| {
+        let symbol = [name.as_bytes(), b"\0"].concat();
+        bytes.windows(symbol.len()).any(|window| window == symbol)
+    };
+    PARTS
+        .iter()
+        .filter(|(_, names)| names.iter().all(has))
+        .map(|(part, _)| *part)
+        .collect()
+}
+
 fn link_library() {
     println!("cargo:rustc-check-cfg=cfg(far)");
     println!("cargo:rustc-check-cfg=cfg(linked)");
+    for (part, _) in PARTS {
+        println!("cargo:rustc-check-cfg=cfg({part})");
+    }
     let place = folder("MISONKANDI_LIB_DIR", "../target/staticlib");
     println!("cargo:rerun-if-changed={}", place.display());
     let library = library(&place);
+    let parts = parts(&library);
+    for part in &parts {
+        println!("cargo:rustc-cfg={part}");
+    }
     let machine = env::var("CARGO_CFG_TARGET_ARCH").expect("cargo gives it");
     let mut ours = String::from("the archive itself");
     if processor(&library) == machine {
         link(&place);
     } else {
         println!("cargo:rustc-cfg=far");
-        build_far_side(&library);
+        build_far_side(&library, &parts);
         let here = place.join(&machine);
         if made_beside(&here, &library) {
             link(&here);
@@ -192,7 +223,7 @@ fn name_the_compiler() {
 }
 
 /// Links the library into far/far_side.c, a program for the library's own processor, and finds what can run it.
-fn build_far_side(library: &Path) {
+fn build_far_side(library: &Path, parts: &[&str]) {
     let here = from_cargo("CARGO_MANIFEST_DIR");
     let source = here.join("far/far_side.c");
     let header = here.join("../crates/gateway");
@@ -214,6 +245,11 @@ fn build_far_side(library: &Path) {
             "-ffreestanding",
             "-fno-builtin",
         ])
+        .args(
+            parts
+                .iter()
+                .map(|part| format!("-D{}", part.to_uppercase())),
+        )
         .args(["-nostdlib", "-static", "-fuse-ld=lld", "-I"])
         .arg(header)
         .arg(source)

@@ -50,6 +50,26 @@ void misonkandi_transpose(uint8_t cells[9]);
 uint32_t misonkandi_relate_places(uint32_t kind_a, double ax, double ay, double bx, double by, uint32_t kind_b, double cx,
                                   double cy, double dx, double dy, uint8_t cells[9]);
 
+/* Stars. An end is fifteen bytes, as in a plan record: dx, dy (four bytes each, signed, big-endian) and a label of seven: kind
+ * (0 line or point, 1 area), then on, left, right for A, then for B, each a position code (0 none, 1 I, 2 B, 3 E).
+ * Checked as a record does, in its order: 4 if the bytes are no whole ends; 5; each end in turn 8, 7, 6, 7; last 9. */
+
+/* Joins all ends into one label, directions not compared: 0 and the label written, or a refusal and nothing written. */
+uint32_t misonkandi_bundle(const uint8_t *ends, size_t count, uint8_t label[7]);
+
+/* The completed labels of a star in order, seven bytes each, zeros after them: their number (0 to 32), or a refusal and nothing
+ * written. The area positions are codes, 0 for no area; a code above 3 is refusal 6, before anything else. */
+uint32_t misonkandi_star(const uint8_t *ends, size_t count, uint32_t area_a, uint32_t area_b, uint8_t labels[224]);
+
+/* One plan record poured into the cells: the bytes used (2 + length), or 2^31 plus a refusal's word and nothing changed. */
+uint32_t misonkandi_record(uint8_t cells[9], const uint8_t *bytes, size_t count);
+
+/* Reads a stored report: 12 and the cells written, or 2^31 plus a refusal's word and nothing written. */
+uint32_t misonkandi_read_report(uint8_t cells[9], const uint8_t *bytes, size_t count);
+
+/* Writes a stored report from an offset on: 12, or 2^31 plus a refusal's word (12) and nothing written. */
+uint32_t misonkandi_write_report(const uint8_t cells[9], uint8_t *buffer, size_t count, size_t offset);
+
 #ifdef __cplusplus
 }
 #endif

@@ -3,14 +3,22 @@
  * compiler and a linker are enough to build it. src/ours/far.rs is the other side and has the same numbers.
  *
  * A batch is its count (4 bytes), then for each call: operation, a (4), b (4), dimension, count of text bytes, the nine
- * cells with a guard of nine on either side (27), text (24). The answer to each: word (4), the 27 bytes, the text. */
+ * cells with a guard of nine on either side (27), text (24). The answer to each: word (4), the 27 bytes, the text.
+ *
+ * If the count's highest bit is set, calls on ends, records and reports follow, and the other bits count their bytes.
+ * For each: operation, a (4), b (4), offset (8), count of `out` (4), count of `bytes` (4), then out and bytes with a
+ * guard of 16 before, between and after. The calls are made where these lie, and all comes back with the word in the
+ * place of a. HAS_STARS, HAS_RECORDS and HAS_REPORTS say which of them the library has. */
 #include "bare.h"
 #include "misonkandi.h"
 
 enum { GUARD = 9, LENT = 27, LONGEST = 24, SENT = 11 + LENT + LONGEST, RETURNED = 4 + LENT + LONGEST, BATCH = 1024 };
 
+enum { PLAN_BATCH = 1 << 20, PLAN_HEAD = 25, PLAN_GUARD = 16 };
+
 static uint8_t sent[BATCH * SENT];
 static uint8_t returned[BATCH * RETURNED];
+static uint8_t plans[PLAN_BATCH];
 
 static uint32_t word_at(const uint8_t *at)
 {
@@ -44,11 +52,58 @@ static void answer(const uint8_t *from, uint8_t *to)
         to[i] = (uint8_t)(word >> 8 * i);
 }
 
+static uint32_t plan_call(uint8_t operation, uint32_t a, uint32_t b, size_t offset, uint8_t *out, uint8_t *bytes,
+                          size_t count)
+{
+    (void)a, (void)b, (void)offset, (void)out, (void)bytes, (void)count;
+    switch (operation) {
+#ifdef HAS_STARS
+    case 0: return misonkandi_bundle(bytes, count, out);
+    case 1: return misonkandi_star(bytes, count, a, b, out);
+#endif
+#ifdef HAS_RECORDS
+    case 2: return misonkandi_record(out, bytes, count);
+#endif
+#ifdef HAS_REPORTS
+    case 3: return misonkandi_read_report(out, bytes, count);
+    case 4: return misonkandi_write_report(out, bytes, count, offset);
+#endif
+    }
+    end(6);
+    return 0;
+}
+
+/* Answers the call that lies here, in place, and gives the place of the next one. */
+static uint8_t *answer_plan(uint8_t *at)
+{
+    size_t offset = word_at(at + 9) | (size_t)word_at(at + 13) << 32;
+    size_t out_count = word_at(at + 17), count = word_at(at + 21);
+    uint8_t *out = at + PLAN_HEAD + PLAN_GUARD;
+    uint8_t *bytes = out + out_count + PLAN_GUARD;
+    uint32_t word = plan_call(at[0], word_at(at + 1), word_at(at + 5), offset, out, bytes, count);
+    for (int i = 0; i < 4; i++)
+        at[1 + i] = (uint8_t)(word >> 8 * i);
+    return bytes + count + PLAN_GUARD;
+}
+
+static void serve_plans(uint32_t count)
+{
+    if (count > PLAN_BATCH || !read_all(plans, count))
+        end(5);
+    for (uint8_t *at = plans; at < plans + count;)
+        at = answer_plan(at);
+    write_all(plans, count);
+}
+
 static void serve(void)
 {
     uint8_t head[4];
     while (read_all(head, 4)) {
         uint32_t count = word_at(head);
+        if (count >> 31) {
+            serve_plans(count & 0x7FFFFFFF);
+            continue;
+        }
         if (count > BATCH || !read_all(sent, count * SENT))
             end(5);
         for (uint32_t i = 0; i < count; i++)

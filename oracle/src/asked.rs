@@ -199,7 +199,7 @@ pub fn hush_the_crate() {
 }
 
 /// The crate's answer, or None if it panicked.
-fn quietly<T>(ask: impl FnOnce() -> T) -> Option<T> {
+pub fn quietly<T>(ask: impl FnOnce() -> T) -> Option<T> {
     ASKING.set(true);
     let answer = catch_unwind(AssertUnwindSafe(ask));
     ASKING.set(false);

@@ -6,6 +6,7 @@
 //! inlining.
 
 use crate::asked;
+use crate::bench_plans;
 use crate::ours::{Call, Op};
 use crate::pieces::{agreeing_pattern, disagreeing, good_pattern, good_text};
 use crate::random::Random;
@@ -52,7 +53,7 @@ struct Input {
 struct Best(f64);
 
 impl Best {
-    fn round<T>(&mut self, call: impl Fn(&Input) -> T, inputs: &[Input]) {
+    fn round<I, T>(&mut self, call: impl Fn(&I) -> T, inputs: &[I]) {
         let start = Instant::now();
         for _ in 0..PASSES {
             for input in inputs {
@@ -64,33 +65,52 @@ impl Best {
     }
 }
 
+/// Whether the library can be called here, and has the function that a line is about.
+#[derive(Clone, Copy, PartialEq, Eq)]
+pub(crate) enum Ours {
+    There,
+    NotBuilt,
+    NotYet,
+}
+
+impl Ours {
+    pub(crate) fn asked_for(in_library: bool) -> Self {
+        match (cfg!(linked), in_library) {
+            (false, _) => Ours::NotBuilt,
+            (true, false) => Ours::NotYet,
+            (true, true) => Ours::There,
+        }
+    }
+}
+
 /// One line of the table. The sides take turns, so that a busy machine slows both.
-fn measure<T, U: PartialEq>(
+pub(crate) fn measure<I, T, U: PartialEq>(
     name: &str,
-    inputs: &[Input],
-    theirs: impl Fn(&Input) -> T,
-    ours: impl Fn(&Input) -> U,
-    right: impl Fn(&Input) -> U,
+    there: Ours,
+    inputs: &[I],
+    theirs: impl Fn(&I) -> T,
+    ours: impl Fn(&I) -> U,
+    right: impl Fn(&I) -> U,
 ) {
-    if cfg!(linked) {
+    if there == Ours::There {
         let all = inputs.iter().all(|input| ours(input) == right(input));
         assert!(all, "{name}: the library's answers aren't document 01's");
     }
     let (mut crates, mut library) = (Best(f64::MAX), Best(f64::MAX));
     for _ in 0..ROUNDS {
         crates.round(&theirs, inputs);
-        if cfg!(linked) {
+        if there == Ours::There {
             library.round(&ours, inputs);
         }
     }
-    if cfg!(linked) {
-        let ratio = crates.0 / library.0;
-        println!(
-            "| {name} | {:.2} | {:.2} | {ratio:.2} |",
-            crates.0, library.0
-        );
-    } else {
-        println!("| {name} | {:.2} | not measured | |", crates.0);
+    let (crates, library) = (crates.0, library.0);
+    match there {
+        Ours::There => println!(
+            "| {name} | {crates:.2} | {library:.2} | {:.2} |",
+            crates / library
+        ),
+        Ours::NotBuilt => println!("| {name} | {crates:.2} | not measured | |"),
+        Ours::NotYet => println!("| {name} | {crates:.2} | not in this library yet | |"),
     }
 }
 
@@ -119,6 +139,7 @@ fn disagreeing_at(random: &mut Random, cells: &[u8; 9], place: usize) -> [u8; 9]
 fn measure_matches(name: &str, inputs: &[Input]) {
     measure(
         name,
+        Ours::asked_for(true),
         inputs,
         |input| input.matrix.matches(&input.text),
         |input| linked::matches(&input.cells, input.text.as_bytes()),
@@ -129,6 +150,7 @@ fn measure_matches(name: &str, inputs: &[Input]) {
 fn measure_predicates(name: &str, inputs: &[Input]) {
     measure(
         name,
+        Ours::asked_for(true),
         inputs,
         |input| asked::predicates(&input.matrix),
         |input| linked::predicates(&input.cells),
@@ -139,6 +161,7 @@ fn measure_predicates(name: &str, inputs: &[Input]) {
 fn measure_text_in(name: &str, inputs: &[Input]) {
     measure(
         name,
+        Ours::asked_for(true),
         inputs,
         |input| IntersectionMatrix::from_str(&input.text),
         |input| {
@@ -157,8 +180,8 @@ fn measure_text_in(name: &str, inputs: &[Input]) {
 pub fn main() {
     let random = &mut Random::new(SEED);
     println!(
-        "Best of {ROUNDS} rounds of {} calls over {INPUTS} random inputs, {}.",
-        PASSES * INPUTS,
+        "Best of {ROUNDS} rounds of {PASSES} passes over {INPUTS} random inputs ({} of stars and records), {}.",
+        bench_plans::INPUTS,
         std::env::consts::ARCH
     );
     println!("Crate: {}.", env!("MISONKANDI_RUSTC"));
@@ -189,4 +212,5 @@ pub fn main() {
     measure_predicates("all eleven predicates of one matrix", &any);
     let texts = inputs(random, |random, _| good_text(random));
     measure_text_in("text in", &texts);
+    bench_plans::measure_all(random);
 }

@@ -23,10 +23,17 @@ include!(concat!(env!("OUT_DIR"), "/geo_modules.rs"));
 
 pub mod bench;
 pub mod compare;
+pub mod jts_cases;
 pub mod sample;
 
 mod asked;
+mod asked_star;
+mod bench_plans;
 mod ours;
 mod pieces;
+mod plan_pieces;
 mod random;
 mod rule;
+mod rule_plan;
+mod rule_star;
+mod sample_plans;

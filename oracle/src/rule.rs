@@ -42,7 +42,7 @@ pub fn outcome(call: &Call) -> Outcome {
         Op::Raise => changed(call, raised(&call.cells, call.text())),
         Op::ToText => Outcome {
             word: 0,
-            nine: read(&call.cells).map(|cell| b"F012"[cell as usize]),
+            nine: text(&call.cells),
         },
         Op::Set => changed(call, set(call, |_, given| given)),
         Op::SetAtLeast => changed(call, set(call, u8::max)),
@@ -86,8 +86,13 @@ pub fn matches(cells: &[u8; 9], pattern: &[u8]) -> u32 {
     1
 }
 
+/// The nine letters of a matrix.
+pub fn text(cells: &[u8; 9]) -> [u8; 9] {
+    read(cells).map(|cell| b"F012"[cell as usize])
+}
+
 /// The nine dimensions of a matrix text, or its refusal.
-fn letters(text: &[u8]) -> Result<[u8; 9], u32> {
+pub fn letters(text: &[u8]) -> Result<[u8; 9], u32> {
     let text: &[u8; 9] = text.try_into().map_err(|_| NOT_NINE)?;
     let mut cells = [0; 9];
     for (place, byte) in text.iter().enumerate() {

@@ -10,6 +10,7 @@ use crate::pieces::{
 };
 use crate::random::Random;
 use crate::rule::{self, Outcome};
+use crate::sample_plans;
 use std::fmt::Write;
 
 /// Never another one: the file must come out the same every time.
@@ -20,8 +21,9 @@ const ROOM: usize = 12;
 const HEAD: &str = "\
 # Answers of geo 0.33.1's intersection_matrix.rs, compiled unchanged; our library was not asked.
 # The whole file is made again by:  sh oracle/samples.sh  (these lines, in the folder oracle: cargo run --release --bin sample)
-# A line is a letter and 36 bytes in hex: nine cells given (0, 1, 2, 3 for F, 0, 1, 2), count of text bytes,
-# the text (12 bytes, 00 after its end), the answer (2 bytes, high byte first), nine cells after, three times 00.
+# A line of P, M, T, R, S or L is that letter and 36 bytes in hex: nine cells given (0, 1, 2, 3 for F, 0, 1, 2),
+# count of text bytes, the text (12 bytes, 00 after its end), the answer (2 bytes, high byte first), nine cells
+# after, three times 00.
 # P all eleven predicates: the answer has their bits. M matches: 1, 0 or a refusal. T text in, R raising from text:
 # 0 or a refusal. S set, L set_at_least: the text is position code in A, in B, dimension; 0 or a refusal.
 # A refusal is 256 times its number plus the bad byte's place; the crate has neither, so they are document 01's.
@@ -32,10 +34,11 @@ const HEAD: &str = "\
 pub fn main() {
     asked::hush_the_crate();
     let mut random = Random::new(SEED);
-    let mut lines = String::from(HEAD);
+    let mut lines = format!("{HEAD}{}", sample_plans::HEAD);
     for call in calls(&mut random) {
         write_line(&mut lines, &call);
     }
+    sample_plans::write_lines(&mut lines, &mut random);
     print!("{lines}");
 }
 

@@ -2,11 +2,16 @@
 
 mod changes;
 mod matches;
+mod plan_tally;
 mod predicates;
+mod records;
+mod reports;
+mod stars;
 mod tally;
 mod text;
 
 use crate::asked;
+use crate::ours::plans::PlanCall;
 use crate::ours::{Call, Library};
 use crate::random::Random;
 use tally::Tally;
@@ -21,6 +26,7 @@ struct Run {
     multiplier: usize,
     library: Library,
     waiting: Vec<Call>,
+    waiting_plans: Vec<PlanCall>,
     kind: &'static str,
     tally: Tally,
 }
@@ -40,10 +46,21 @@ impl Run {
         }
     }
 
+    fn ask_plan(&mut self, call: PlanCall) {
+        self.waiting_plans.push(call);
+        if self.waiting_plans.len() == BATCH {
+            self.answer_waiting();
+        }
+    }
+
     fn answer_waiting(&mut self) {
         let replies = self.library.answer(&self.waiting);
         for (call, reply) in self.waiting.drain(..).zip(replies) {
             self.tally.take(self.kind, &call, &reply);
+        }
+        let replies = self.library.answer_plans(&self.waiting_plans);
+        for (call, reply) in self.waiting_plans.drain(..).zip(replies) {
+            self.tally.take_plan(self.kind, &call, reply.as_ref());
         }
     }
 
@@ -74,6 +91,7 @@ pub fn main() -> i32 {
         multiplier,
         library: Library::open(),
         waiting: Vec::with_capacity(BATCH),
+        waiting_plans: Vec::with_capacity(BATCH),
         kind: "",
         tally: Tally::default(),
     };
@@ -83,6 +101,9 @@ pub fn main() -> i32 {
     matches::compare(&mut run);
     text::compare(&mut run);
     changes::compare(&mut run);
+    stars::compare(&mut run);
+    records::compare(&mut run);
+    reports::compare(&mut run);
     run.answer_waiting();
     run.tally.report()
 }

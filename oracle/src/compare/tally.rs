@@ -1,5 +1,6 @@
 //! Holds one call's three answers together, counts them, and prints what differs.
 
+use super::plan_tally::Numbers;
 use crate::asked::{self, Answer, Said};
 use crate::ours::{Call, Op, Reply};
 use crate::rule::{self, Outcome};
@@ -19,13 +20,13 @@ struct Listed {
 }
 
 #[derive(Default)]
-struct Count {
-    calls: u64,
+pub(super) struct Count {
+    pub(super) calls: u64,
     yes: u64,
-    refused: u64,
-    not_asked: u64,
+    pub(super) refused: u64,
+    pub(super) not_asked: u64,
     listed: u64,
-    unlisted: u64,
+    pub(super) unlisted: u64,
 }
 
 #[derive(Default)]
@@ -34,11 +35,17 @@ pub struct Tally {
     listed: BTreeMap<&'static str, Listed>,
     above_3_left: u64,
     above_3_written_as_3: u64,
+    pub(super) numbers: Numbers,
 }
 
 impl Tally {
     pub fn begin(&mut self, kind: &'static str) {
         self.kinds.push((kind, Count::default()));
+    }
+
+    /// The counts of the kind begun last.
+    pub(super) fn count(&mut self) -> &mut Count {
+        &mut self.kinds.last_mut().expect("a kind was begun").1
     }
 
     /// Counts one call; prints it if the three sides differ in a way that isn't listed.
@@ -62,7 +69,7 @@ impl Tally {
                 describe_answers(&due, said.as_ref(), reply)
             );
         }
-        let count = &mut self.kinds.last_mut().expect("a kind was begun").1;
+        let count = self.count();
         count.calls += 1;
         count.yes += u64::from(matches!(call.op, Op::Matches | Op::Predicate) && due.word == 1);
         count.refused += u64::from(call.op != Op::Predicates && rule::refuses(due.word));
@@ -133,10 +140,11 @@ impl Tally {
             "accepted changes of a matrix with numbers above 3: {} times such a number still stood in some cell, {} times all nine were 0 to 3",
             self.above_3_left, self.above_3_written_as_3
         );
+        let unmet = self.numbers.report();
         let total: u64 = self.kinds.iter().map(|(_, count)| count.calls).sum();
         let unlisted: u64 = self.kinds.iter().map(|(_, count)| count.unlisted).sum();
         println!("{total} calls, {unlisted} unlisted differences");
-        i32::from(unlisted != 0)
+        i32::from(unlisted + unmet != 0)
     }
 }
 

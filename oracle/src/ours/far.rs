@@ -3,6 +3,7 @@
 //! build.rs compiles that program for x86-64, links libgateway.a into it and names the emulator. The records of a
 //! batch are sent, all of them are read there, then all answers come back: neither side waits on a full pipe.
 
+use super::plans::{self, PlanCall, PlanReply};
 use super::{Call, GUARD, LONGEST, Raw, guarded};
 use std::io::{Read, Write};
 use std::process::{Child, ChildStdin, ChildStdout, Command, Stdio};
@@ -12,6 +13,13 @@ const SENT: usize = 1 + 4 + 4 + 1 + 1 + LENT + LONGEST;
 const RETURNED: usize = 4 + LENT + LONGEST;
 /// far_side.c holds one batch: the same number stands there.
 const BATCH: usize = 1024;
+
+/// Set in a batch's head if calls on ends, records and reports follow; the rest of the head is their count of bytes.
+const PLANS: u32 = 1 << 31;
+/// far_side.c holds so many bytes of them: the same number stands there.
+const PLAN_BATCH: usize = 1 << 20;
+/// What stands before what such a call is lent.
+const PLAN_HEAD: usize = 1 + 4 + 4 + 8 + 4 + 4;
 
 pub(super) struct FarSide {
     child: Child,
@@ -60,6 +68,74 @@ impl FarSide {
             .expect("the far side answers every call");
         returned.chunks_exact(RETURNED).map(raw).collect()
     }
+
+    /// None where the library hasn't the function; the others go in batches that the far side has room for.
+    pub(super) fn answer_plans(&mut self, calls: &[PlanCall]) -> Vec<Option<PlanReply>> {
+        let mut replies = Vec::with_capacity(calls.len());
+        let mut batch = Vec::new();
+        let mut first = 0;
+        for (place, call) in calls.iter().enumerate() {
+            let sent = if call.op.is_in_library() {
+                plan_sent(call)
+            } else {
+                Vec::new()
+            };
+            if batch.len() + sent.len() > PLAN_BATCH {
+                self.answer_plan_batch(&calls[first..place], &mut batch, &mut replies);
+                first = place;
+            }
+            batch.extend(sent);
+        }
+        self.answer_plan_batch(&calls[first..], &mut batch, &mut replies);
+        replies
+    }
+
+    fn answer_plan_batch(
+        &mut self,
+        calls: &[PlanCall],
+        batch: &mut Vec<u8>,
+        replies: &mut Vec<Option<PlanReply>>,
+    ) {
+        if !batch.is_empty() {
+            let head = PLANS | batch.len() as u32;
+            let to = self.to.as_mut().expect("open until the end");
+            to.write_all(&head.to_le_bytes())
+                .and_then(|()| to.write_all(batch))
+                .expect("the far side reads");
+            self.from
+                .read_exact(batch)
+                .expect("the far side answers every call");
+        }
+        let mut rest = batch.as_slice();
+        for call in calls {
+            if !call.op.is_in_library() {
+                replies.push(None);
+                continue;
+            }
+            let (returned, after) = rest.split_at(PLAN_HEAD + call.lent().len());
+            replies.push(Some(plan_reply(call, returned)));
+            rest = after;
+        }
+        batch.clear();
+    }
+}
+
+/// A call on ends, a record or a report as it is sent.
+fn plan_sent(call: &PlanCall) -> Vec<u8> {
+    let mut sent = vec![call.op as u8];
+    sent.extend(call.a.to_le_bytes());
+    sent.extend(call.b.to_le_bytes());
+    sent.extend(call.offset.to_le_bytes());
+    sent.extend((call.out.len() as u32).to_le_bytes());
+    sent.extend((call.bytes.len() as u32).to_le_bytes());
+    sent.extend(call.lent());
+    sent
+}
+
+/// It comes back as it was sent, but for the word in the place of `a`, and what the call wrote.
+fn plan_reply(call: &PlanCall, returned: &[u8]) -> PlanReply {
+    let word = u32::from_le_bytes(returned[1..5].try_into().expect("four bytes"));
+    plans::reply(call, word, &returned[PLAN_HEAD..])
 }
 
 fn raw(returned: &[u8]) -> Raw {

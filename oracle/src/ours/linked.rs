@@ -1,5 +1,6 @@
 //! The library's C interface, as crates/gateway/misonkandi.h declares it. The only unsafe code of the oracle.
 
+use super::plans::LABELS;
 use super::{Call, GUARD, Op, Raw, guarded};
 
 mod c {
@@ -14,10 +15,57 @@ mod c {
         pub fn misonkandi_set_at_least(cells: *mut u8, a: u32, b: u32, dimension: u8) -> u32;
         pub fn misonkandi_transpose(cells: *mut u8);
     }
+    #[cfg(has_stars)]
+    unsafe extern "C" {
+        pub fn misonkandi_bundle(ends: *const u8, count: usize, label: *mut u8) -> u32;
+        pub fn misonkandi_star(
+            ends: *const u8,
+            count: usize,
+            area_a: u32,
+            area_b: u32,
+            labels: *mut u8,
+        ) -> u32;
+    }
+    #[cfg(has_records)]
+    unsafe extern "C" {
+        pub fn misonkandi_record(cells: *mut u8, bytes: *const u8, count: usize) -> u32;
+    }
+    #[cfg(has_reports)]
+    unsafe extern "C" {
+        pub fn misonkandi_read_report(cells: *mut u8, bytes: *const u8, count: usize) -> u32;
+        pub fn misonkandi_write_report(
+            cells: *const u8,
+            buffer: *mut u8,
+            count: usize,
+            offset: usize,
+        ) -> u32;
+    }
+
+    // A library without them is never asked for them: `PlanOp::is_in_library`.
+    #[cfg(not(has_stars))]
+    pub unsafe fn misonkandi_bundle(_: *const u8, _: usize, _: *mut u8) -> u32 {
+        unreachable!()
+    }
+    #[cfg(not(has_stars))]
+    pub unsafe fn misonkandi_star(_: *const u8, _: usize, _: u32, _: u32, _: *mut u8) -> u32 {
+        unreachable!()
+    }
+    #[cfg(not(has_records))]
+    pub unsafe fn misonkandi_record(_: *mut u8, _: *const u8, _: usize) -> u32 {
+        unreachable!()
+    }
+    #[cfg(not(has_reports))]
+    pub unsafe fn misonkandi_read_report(_: *mut u8, _: *const u8, _: usize) -> u32 {
+        unreachable!()
+    }
+    #[cfg(not(has_reports))]
+    pub unsafe fn misonkandi_write_report(_: *const u8, _: *mut u8, _: usize, _: usize) -> u32 {
+        unreachable!()
+    }
 }
 
-// SAFETY, for all below: each pointer leads to at least the nine bytes, or the `count` bytes, that the header asks
-// for, and they live and are lent to nobody else until the call is over.
+// SAFETY, for all below: each pointer leads to at least the bytes of a fixed number, or the `count` bytes, that the
+// header asks for, and they live and are lent to nobody else until the call is over.
 
 pub fn predicates(cells: &[u8; 9]) -> u32 {
     unsafe { c::misonkandi_predicates(cells.as_ptr()) }
@@ -53,6 +101,28 @@ pub fn set_at_least(cells: &mut [u8; 9], a: u32, b: u32, dimension: u8) -> u32 {
 
 pub fn transpose(cells: &mut [u8; 9]) {
     unsafe { c::misonkandi_transpose(cells.as_mut_ptr()) }
+}
+
+pub fn bundle(ends: &[u8], label: &mut [u8; 7]) -> u32 {
+    unsafe { c::misonkandi_bundle(ends.as_ptr(), ends.len(), label.as_mut_ptr()) }
+}
+
+pub fn star(ends: &[u8], area_a: u32, area_b: u32, labels: &mut [u8; LABELS]) -> u32 {
+    let labels = labels.as_mut_ptr();
+    unsafe { c::misonkandi_star(ends.as_ptr(), ends.len(), area_a, area_b, labels) }
+}
+
+pub fn record(cells: &mut [u8; 9], bytes: &[u8]) -> u32 {
+    unsafe { c::misonkandi_record(cells.as_mut_ptr(), bytes.as_ptr(), bytes.len()) }
+}
+
+pub fn read_report(cells: &mut [u8; 9], bytes: &[u8]) -> u32 {
+    unsafe { c::misonkandi_read_report(cells.as_mut_ptr(), bytes.as_ptr(), bytes.len()) }
+}
+
+pub fn write_report(cells: &[u8; 9], buffer: &mut [u8], offset: usize) -> u32 {
+    let (start, count) = (buffer.as_mut_ptr(), buffer.len());
+    unsafe { c::misonkandi_write_report(cells.as_ptr(), start, count, offset) }
 }
 
 /// Makes one call on bytes that have guards around them.

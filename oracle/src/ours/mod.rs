@@ -10,6 +10,9 @@ mod far;
 #[cfg(linked)]
 #[cfg_attr(far, allow(dead_code))]
 pub mod linked;
+pub mod plans;
+
+use plans::{PlanCall, PlanReply};
 
 /// The longest text that is asked with.
 pub const LONGEST: usize = 24;
@@ -153,6 +156,15 @@ impl Library {
             .zip(raws)
             .map(|(call, raw)| reply(call, &raw))
             .collect()
+    }
+
+    /// Answers the calls on ends, records and reports in order; None where the library hasn't the function.
+    pub fn answer_plans(&mut self, calls: &[PlanCall]) -> Vec<Option<PlanReply>> {
+        #[cfg(far)]
+        let replies = self.side.answer_plans(calls);
+        #[cfg(not(far))]
+        let replies = calls.iter().map(plans::answer_if_there).collect();
+        replies
     }
 
     /// How the library is reached, for the head of a report.

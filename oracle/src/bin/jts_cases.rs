@@ -1,0 +1,3 @@
+fn main() {
+    oracle::jts_cases::main();
+}

@@ -1,0 +1,149 @@
+//! Bundles and stars: labels joined, and labels completed.
+
+use super::Run;
+use crate::ours::plans::PlanCall;
+use crate::plan_pieces::{Labels, count, damage_ends, end, ends};
+
+/// Area codes above 3; some are 0 to 3 in their low byte or low half.
+const BAD_AREAS: [u32; 7] = [4, 5, 255, 256, 258, 65_539, u32::MAX];
+
+pub fn compare(run: &mut Run) {
+    bundles(run);
+    small_bundles(run);
+    stars(run);
+    small_stars(run);
+    every_pair_of_labels(run);
+    damaged(run);
+    bad_areas(run);
+    no_whole_ends(run);
+}
+
+fn area(run: &mut Run) -> u32 {
+    run.random.below(4) as u32
+}
+
+fn ask_star(run: &mut Run, ends: Vec<u8>) {
+    let (a, b) = (area(run), area(run));
+    run.ask_plan(PlanCall::star(ends, a, b));
+}
+
+fn bundles(run: &mut Run) {
+    run.begin("bundle, random, 0 to 34 ends");
+    for _ in 0..run.times(120_000) {
+        let count = count(&mut run.random);
+        let ends = ends(&mut run.random, count);
+        run.ask_plan(PlanCall::bundle(ends));
+    }
+}
+
+fn small_bundles(run: &mut Run) {
+    run.begin("bundle, one end and two, every code of A with every code of A");
+    for first in every_half() {
+        run.ask_plan(PlanCall::bundle(end((1, 0), &first).to_vec()));
+        for second in every_half() {
+            let ends = [end((1, 0), &first), end((-1, 0), &second)].concat();
+            run.ask_plan(PlanCall::bundle(ends));
+        }
+    }
+}
+
+/// Every label that says something of A and nothing of B.
+fn every_half() -> impl Iterator<Item = [u8; 7]> {
+    let line = (0..4).map(|on| [0, on, 0, 0, 0, 0, 0]);
+    line.chain((0..64).map(|codes| [1, codes & 3, codes >> 2 & 3, codes >> 4, 0, 0, 0]))
+}
+
+fn stars(run: &mut Run) {
+    run.begin("star, random, 0 to 34 ends");
+    for _ in 0..run.times(120_000) {
+        let count = count(&mut run.random);
+        let ends = ends(&mut run.random, count);
+        ask_star(run, ends);
+    }
+}
+
+/// Two to four ends in bundles of their own, given in any order: start, walk and collapse in few steps.
+fn small_stars(run: &mut Run) {
+    run.begin("star, two to four directions of their own");
+    let around = [
+        (3, 0),
+        (1, 2),
+        (0, 1),
+        (-2, 1),
+        (-1, 0),
+        (-1, -1),
+        (0, -5),
+        (2, -1),
+    ];
+    for _ in 0..run.times(60_000) {
+        let mut directions = around;
+        let labels = Labels {
+            areas: run.random.pick(&[3, 5, 9]),
+            nones: run.random.pick(&[2, 5]),
+            paired: run.random.below(2) == 0,
+        };
+        let mut ends = Vec::new();
+        for place in 0..2 + run.random.below(3) {
+            directions.swap(place, place + run.random.below(8 - place));
+            let label = labels.label(&mut run.random);
+            ends.extend(end(directions[place], &label));
+        }
+        ask_star(run, ends);
+    }
+}
+
+/// The walk, the single side and the collapse, over all that two bundles can say of A.
+fn every_pair_of_labels(run: &mut Run) {
+    run.begin("star, two bundles, every code of A with every code of A");
+    for first in every_half() {
+        for second in every_half() {
+            let ends = [end((1, 0), &first), end((0, 1), &second)].concat();
+            ask_star(run, ends);
+        }
+    }
+}
+
+fn damaged(run: &mut Run) {
+    run.begin("bundle, ends with a fault");
+    for _ in 0..run.times(20_000) {
+        let ends = damaged_ends(run);
+        run.ask_plan(PlanCall::bundle(ends));
+    }
+    run.begin("star, ends with a fault");
+    for _ in 0..run.times(20_000) {
+        let ends = damaged_ends(run);
+        ask_star(run, ends);
+    }
+}
+
+fn damaged_ends(run: &mut Run) -> Vec<u8> {
+    let count = count(&mut run.random);
+    let mut ends = ends(&mut run.random, count);
+    damage_ends(&mut run.random, &mut ends);
+    ends
+}
+
+fn bad_areas(run: &mut Run) {
+    run.begin("star, an area code above 3, ends with a fault or without");
+    for bad in BAD_AREAS {
+        for other in (0..4).chain(BAD_AREAS) {
+            for (a, b) in [(bad, other), (other, bad)] {
+                for _ in 0..run.times(20) {
+                    let ends = damaged_ends(run);
+                    run.ask_plan(PlanCall::star(ends, a, b));
+                }
+            }
+        }
+    }
+}
+
+fn no_whole_ends(run: &mut Run) {
+    run.begin("bundle and star, bytes that are no whole ends");
+    for _ in 0..run.times(5_000) {
+        let mut ends = damaged_ends(run);
+        let more = 1 + run.random.below(14);
+        ends.extend((0..more).map(|_| run.random.byte()));
+        run.ask_plan(PlanCall::bundle(ends.clone()));
+        ask_star(run, ends);
+    }
+}

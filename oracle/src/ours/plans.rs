@@ -1,0 +1,168 @@
+//! Calls on ends, plan records and stored reports: their bytes are of any count, so they are written down apart.
+//!
+//! What a call is lent stands in one stretch, with guards before, between and after: the bytes that it may write an
+//! answer into (`out`), then the ends, the record, the report or the buffer (`bytes`). The stretch is the same whether
+//! the library is linked or in a program of its own.
+
+#[cfg(all(linked, not(far)))]
+use super::linked;
+
+/// Room for a star's labels: 32 of seven bytes.
+pub const LABELS: usize = 224;
+
+const GUARD: usize = 16;
+const GUARD_BYTE: u8 = 0x5A;
+
+#[derive(Clone, Copy, Debug, PartialEq, Eq, PartialOrd, Ord)]
+#[repr(u8)]
+pub enum PlanOp {
+    Bundle = 0,
+    Star = 1,
+    Record = 2,
+    ReadReport = 3,
+    WriteReport = 4,
+}
+
+impl PlanOp {
+    /// The function's name in the C interface.
+    pub fn name(self) -> &'static str {
+        match self {
+            PlanOp::Bundle => "misonkandi_bundle",
+            PlanOp::Star => "misonkandi_star",
+            PlanOp::Record => "misonkandi_record",
+            PlanOp::ReadReport => "misonkandi_read_report",
+            PlanOp::WriteReport => "misonkandi_write_report",
+        }
+    }
+
+    /// Whether the library that the oracle is built with has the function.
+    pub fn is_in_library(self) -> bool {
+        match self {
+            PlanOp::Bundle | PlanOp::Star => cfg!(has_stars),
+            PlanOp::Record => cfg!(has_records),
+            PlanOp::ReadReport | PlanOp::WriteReport => cfg!(has_reports),
+        }
+    }
+}
+
+/// One call. What an operation doesn't take is 0.
+#[derive(Clone, Debug)]
+pub struct PlanCall {
+    pub op: PlanOp,
+    /// A label's seven bytes, the 224 of a star's labels, or nine cells; as they are before the call.
+    pub out: Vec<u8>,
+    pub bytes: Vec<u8>,
+    /// The area codes.
+    pub a: u32,
+    pub b: u32,
+    pub offset: u64,
+}
+
+impl PlanCall {
+    /// `out` is filled with a byte that no answer has, so that a byte that isn't written shows.
+    pub fn bundle(ends: Vec<u8>) -> Self {
+        PlanCall {
+            op: PlanOp::Bundle,
+            out: vec![0xC3; 7],
+            bytes: ends,
+            a: 0,
+            b: 0,
+            offset: 0,
+        }
+    }
+
+    pub fn star(ends: Vec<u8>, a: u32, b: u32) -> Self {
+        PlanCall {
+            op: PlanOp::Star,
+            out: vec![0xC3; LABELS],
+            a,
+            b,
+            ..PlanCall::bundle(ends)
+        }
+    }
+
+    pub fn on_cells(op: PlanOp, cells: [u8; 9], bytes: Vec<u8>) -> Self {
+        PlanCall {
+            op,
+            out: cells.to_vec(),
+            ..PlanCall::bundle(bytes)
+        }
+    }
+
+    pub fn write_report(cells: [u8; 9], buffer: Vec<u8>, offset: u64) -> Self {
+        PlanCall {
+            offset,
+            ..PlanCall::on_cells(PlanOp::WriteReport, cells, buffer)
+        }
+    }
+
+    /// The nine cells of a call that has them.
+    pub fn cells(&self) -> [u8; 9] {
+        self.out.as_slice().try_into().expect("nine cells")
+    }
+
+    /// The stretch before the call.
+    pub(super) fn lent(&self) -> Vec<u8> {
+        let guard = [GUARD_BYTE; GUARD];
+        [&guard[..], &self.out, &guard, &self.bytes, &guard].concat()
+    }
+
+    fn out_at(&self) -> std::ops::Range<usize> {
+        GUARD..GUARD + self.out.len()
+    }
+
+    fn bytes_at(&self) -> std::ops::Range<usize> {
+        let start = 2 * GUARD + self.out.len();
+        start..start + self.bytes.len()
+    }
+}
+
+/// The answer, what was lent as the call left it, and whether a guard changed.
+pub struct PlanReply {
+    pub word: u32,
+    pub out: Vec<u8>,
+    pub bytes: Vec<u8>,
+    pub stray: bool,
+}
+
+/// Takes the stretch apart after the call.
+pub(super) fn reply(call: &PlanCall, word: u32, lent: &[u8]) -> PlanReply {
+    let out = lent[call.out_at()].to_vec();
+    let bytes = lent[call.bytes_at()].to_vec();
+    let written = PlanCall {
+        out: out.clone(),
+        bytes: bytes.clone(),
+        ..call.clone()
+    };
+    PlanReply {
+        word,
+        out,
+        bytes,
+        stray: written.lent() != lent,
+    }
+}
+
+#[cfg(all(linked, not(far)))]
+pub(super) fn answer_if_there(call: &PlanCall) -> Option<PlanReply> {
+    call.op.is_in_library().then(|| answer(call))
+}
+
+/// Makes one call on the stretch, in this process.
+#[cfg(all(linked, not(far)))]
+fn answer(call: &PlanCall) -> PlanReply {
+    let mut lent = call.lent();
+    let (front, back) = lent.split_at_mut(call.bytes_at().start);
+    let out = &mut front[call.out_at()];
+    let bytes = &mut back[..call.bytes.len()];
+    let word = match call.op {
+        PlanOp::Bundle => linked::bundle(bytes, out.try_into().expect("seven")),
+        PlanOp::Star => linked::star(bytes, call.a, call.b, out.try_into().expect("224")),
+        PlanOp::Record => linked::record(out.try_into().expect("nine"), bytes),
+        PlanOp::ReadReport => linked::read_report(out.try_into().expect("nine"), bytes),
+        PlanOp::WriteReport => {
+            let offset = usize::try_from(call.offset).expect("as wide as an offset there");
+            linked::write_report((&*out).try_into().expect("nine"), bytes, offset)
+        }
+    };
+    reply(call, word, &lent)
+}

@@ -1,0 +1,248 @@
+//! Document 01's rules for plan records and stored reports, and what each call on ends, records and reports must
+//! answer.
+
+use crate::ours::plans::{LABELS, PlanCall, PlanOp};
+use crate::rule::{self, BAD_CODE};
+use crate::rule_star::{
+    self, LABEL_BYTES, Label, MOST_ENDS, Position, TOO_MANY_ENDS, WRONG_LENGTH, pour_label,
+    pour_node,
+};
+
+pub const TOO_FEW_BYTES: u32 = 256;
+pub const BAD_VERSION: u32 = 256 * 2;
+pub const BAD_KIND: u32 = 256 * 3;
+pub const NO_ROOM: u32 = 256 * 12;
+
+/// Calls that answer the bytes used set this bit in a refusal's word.
+pub const REFUSED: u32 = 1 << 31;
+
+pub const REPORT_BYTES: usize = 12;
+
+/// What a call must answer, and every byte that it was lent, afterwards.
+#[derive(Clone, Debug, PartialEq, Eq)]
+pub struct PlanOutcome {
+    pub word: u32,
+    pub out: Vec<u8>,
+    pub bytes: Vec<u8>,
+}
+
+/// Document 01's number of a refusal, or None for a word that is none.
+pub fn refusal(op: PlanOp, word: u32) -> Option<u32> {
+    let flagged = !matches!(op, PlanOp::Bundle | PlanOp::Star);
+    let refuses = if flagged {
+        word >= REFUSED
+    } else {
+        rule::refuses(word)
+    };
+    refuses.then_some((word & !REFUSED) / 256)
+}
+
+pub fn outcome(call: &PlanCall) -> PlanOutcome {
+    match call.op {
+        PlanOp::Bundle => written(call, bundle(&call.bytes)),
+        PlanOp::Star => written(call, star(&call.bytes, call.a, call.b)),
+        PlanOp::Record => used(call, record(&call.cells(), &call.bytes)),
+        PlanOp::ReadReport => used(call, read_report(&call.bytes)),
+        PlanOp::WriteReport => write_report(call),
+    }
+}
+
+/// "A refusal returns the matrix given (.. bundles and stars: none, and no label), bytes used 0, and no byte of a
+/// buffer differs."
+fn refused(call: &PlanCall, word: u32) -> PlanOutcome {
+    PlanOutcome {
+        word,
+        out: call.out.clone(),
+        bytes: call.bytes.clone(),
+    }
+}
+
+/// A word and what is written out.
+fn written(call: &PlanCall, result: Result<(u32, Vec<u8>), u32>) -> PlanOutcome {
+    match result {
+        Ok((word, out)) => PlanOutcome {
+            word,
+            out,
+            bytes: call.bytes.clone(),
+        },
+        Err(word) => refused(call, word),
+    }
+}
+
+/// The bytes used and the cells.
+fn used(call: &PlanCall, result: Result<(u32, [u8; 9]), u32>) -> PlanOutcome {
+    let result = result.map(|(used, cells)| (used, cells.to_vec()));
+    written(call, result.map_err(|word| REFUSED + word))
+}
+
+/// "A bundle call joins all its ends, directions not compared."
+fn bundle(bytes: &[u8]) -> Result<(u32, Vec<u8>), u32> {
+    let ends = rule_star::ends(bytes)?;
+    Ok((0, rule_star::joined(&ends).to_bytes().to_vec()))
+}
+
+/// The header: an area code above 3 before anything else; zeros after the last label.
+fn star(bytes: &[u8], a: u32, b: u32) -> Result<(u32, Vec<u8>), u32> {
+    let area = |code: u32| rule_star::position(u8::try_from(code).unwrap_or(u8::MAX));
+    let areas = [area(a)?, area(b)?];
+    let labels = rule_star::star(&rule_star::ends(bytes)?, areas)?;
+    let mut out: Vec<u8> = labels.iter().flat_map(|label| label.to_bytes()).collect();
+    out.resize(LABELS, 0);
+    Ok((labels.len() as u32, out))
+}
+
+/// The bytes that a length field promises, after it: "fewer bytes than the length field needs or promises".
+fn promised(bytes: &[u8]) -> Result<&[u8], u32> {
+    let [high, low, rest @ ..] = bytes else {
+        return Err(TOO_FEW_BYTES);
+    };
+    let length = usize::from(*high) * 256 + usize::from(*low);
+    rest.get(..length).ok_or(TOO_FEW_BYTES)
+}
+
+/// "Record order: 1; length below 2 is 4; 2; 3; length below 7 (kind 1) or not 9 (kind 2) is 4; .."
+pub fn record(cells: &[u8; 9], bytes: &[u8]) -> Result<(u32, [u8; 9]), u32> {
+    let promised = promised(bytes)?;
+    let [version, kind, body @ ..] = promised else {
+        return Err(WRONG_LENGTH);
+    };
+    if *version != 1 {
+        return Err(BAD_VERSION);
+    }
+    let mut cells = rule::read(cells);
+    match kind {
+        1 => pour_node_record(&mut cells, body)?,
+        2 => pour_edge_record(&mut cells, body)?,
+        _ => return Err(BAD_KIND),
+    }
+    Ok((2 + promised.len() as u32, cells))
+}
+
+/// ".. length below 7 (kind 1) is 4; 5; length not 7 + 15n is 4; node and area positions 6; each end in turn ..; last
+/// 9."
+fn pour_node_record(cells: &mut [u8; 9], body: &[u8]) -> Result<(), u32> {
+    let [node_a, node_b, area_a, area_b, count, bytes @ ..] = body else {
+        return Err(WRONG_LENGTH);
+    };
+    let count = usize::from(*count);
+    if count > MOST_ENDS {
+        return Err(TOO_MANY_ENDS);
+    }
+    if bytes.len() != 15 * count {
+        return Err(WRONG_LENGTH);
+    }
+    let nodes = [node_position(*node_a)?, node_position(*node_b)?];
+    let areas = [rule_star::position(*area_a)?, rule_star::position(*area_b)?];
+    let labels = rule_star::star(&rule_star::ends(bytes)?, areas)?;
+    pour_node(cells, nodes);
+    for label in &labels {
+        pour_label(cells, label);
+    }
+    Ok(())
+}
+
+/// "node position A, B (1 to 3)"
+fn node_position(code: u8) -> Result<Option<Position>, u32> {
+    match rule_star::position(code)? {
+        None => Err(BAD_CODE),
+        some => Ok(some),
+    }
+}
+
+/// "Kind 2, isolated edge: one label, poured as it is. Length 9."
+fn pour_edge_record(cells: &mut [u8; 9], body: &[u8]) -> Result<(), u32> {
+    let bytes: &[u8; LABEL_BYTES] = body.try_into().map_err(|_| WRONG_LENGTH)?;
+    pour_label(cells, &Label::from_bytes(bytes)?);
+    Ok(())
+}
+
+/// "Report: 1, 4, 2, 11."
+fn read_report(bytes: &[u8]) -> Result<(u32, [u8; 9]), u32> {
+    let [version, text @ ..] = promised(bytes)? else {
+        return Err(WRONG_LENGTH);
+    };
+    if text.len() != 9 {
+        return Err(WRONG_LENGTH);
+    }
+    if *version != 1 {
+        return Err(BAD_VERSION);
+    }
+    Ok((REPORT_BYTES as u32, rule::letters(text)?))
+}
+
+/// The twelve bytes of a matrix's stored report.
+pub fn report(cells: &[u8; 9]) -> [u8; REPORT_BYTES] {
+    let mut report = *b"\x00\x0A\x01.........";
+    report[3..].copy_from_slice(&rule::text(cells));
+    report
+}
+
+/// "offset beyond the buffer, or fewer than 12 bytes from it"
+fn write_report(call: &PlanCall) -> PlanOutcome {
+    let mut bytes = call.bytes.clone();
+    let from_offset = usize::try_from(call.offset)
+        .ok()
+        .and_then(|offset| bytes.get_mut(offset..))
+        .and_then(|part| part.get_mut(..REPORT_BYTES));
+    let Some(room) = from_offset else {
+        return refused(call, REFUSED + NO_ROOM);
+    };
+    room.copy_from_slice(&report(&call.cells()));
+    PlanOutcome {
+        word: REPORT_BYTES as u32,
+        out: call.out.clone(),
+        bytes,
+    }
+}
+
+#[cfg(test)]
+mod tests {
+    use super::*;
+    use crate::rule_star::BAD_LABEL;
+
+    /// A node with these positions for both geometries and for both areas, and these ends.
+    fn node(position: u8, ends: &[[u8; 15]]) -> Vec<u8> {
+        let mut bytes = vec![0, 7 + 15 * ends.len() as u8, 1, 1];
+        bytes.extend([position; 4]);
+        bytes.push(ends.len() as u8);
+        bytes.extend(ends.concat());
+        bytes
+    }
+
+    fn end(dx: i8, dy: i8, label: [u8; 7]) -> [u8; 15] {
+        let mut bytes = [0; 15];
+        bytes[..4].copy_from_slice(&i32::from(dx).to_be_bytes());
+        bytes[4..8].copy_from_slice(&i32::from(dy).to_be_bytes());
+        bytes[8..].copy_from_slice(&label);
+        bytes
+    }
+
+    #[test]
+    fn p1_by_the_rule() {
+        let ends = [
+            end(2, 0, [1, 0, 0, 0, 2, 1, 3]),
+            end(0, 2, [1, 2, 1, 3, 0, 0, 0]),
+            end(-2, 0, [1, 0, 0, 0, 2, 3, 1]),
+            end(0, -2, [1, 2, 3, 1, 0, 0, 0]),
+        ];
+        let start = [0, 0, 0, 0, 0, 0, 0, 0, 3];
+        let (used, cells) = record(&start, &node(2, &ends)).expect("P1 is good");
+        assert_eq!(used, 69);
+        assert_eq!(&rule::text(&cells), b"212101212");
+    }
+
+    #[test]
+    fn refusals_stand_in_the_records_order() {
+        let word = |bytes: &[u8]| record(&[0; 9], bytes).expect_err("refused");
+        assert_eq!(word(&[0]), TOO_FEW_BYTES);
+        assert_eq!(word(&[0, 1, 9]), WRONG_LENGTH);
+        assert_eq!(word(&[0, 2, 9, 9]), BAD_VERSION);
+        assert_eq!(word(&[0, 2, 1, 9]), BAD_KIND);
+        assert_eq!(word(&[0, 2, 1, 1]), WRONG_LENGTH);
+        assert_eq!(word(&[0, 7, 1, 1, 9, 9, 9, 9, 33]), TOO_MANY_ENDS);
+        assert_eq!(word(&[0, 7, 1, 1, 9, 9, 9, 9, 1]), WRONG_LENGTH);
+        assert_eq!(word(&[0, 7, 1, 1, 0, 9, 9, 9, 0]), BAD_CODE);
+        assert_eq!(word(&[0, 9, 1, 2, 0, 1, 1, 0, 0, 0, 4]), BAD_CODE);
+        assert_eq!(word(&[0, 9, 1, 2, 0, 1, 1, 0, 0, 0, 3]), BAD_LABEL);
+    }
+}
