@@ -8,7 +8,9 @@ use crate::topology_position::position;
 use de9im::cells::Cells;
 use de9im::cells::to_cells;
 use de9im::coordinate_position::Position;
+use de9im::coordinate_position::row;
 use de9im::dimensions::Dimensions;
+use de9im::dimensions::number;
 use de9im::intersection_matrix::IntersectionMatrix;
 use de9im::intersection_matrix::set_at_least_if_in_both;
 ghost use mathlib.Core.Path.{_≡_};
@@ -16,7 +18,7 @@ ghost use Prim.Native.Nat.{_≤_};
 ghost use lib.ListN.{take};
 ghost use Rattle.star.specs.Calls.{pouredStar};
 ghost use Rattle.star.specs.Ends.{Sound};
-ghost use Rattle.star.specs.Pouring.{pourNode, pourSide, pourLabel, pourLabels};
+ghost use Rattle.star.specs.Pouring.{pourNode, pourSide, pourLabel, pourLabels, heldOf};
 
 // A node raises (on A, on B) to 0.
 pub fn pour_node(m: IntersectionMatrix, a: Position, b: Position) -> IntersectionMatrix
@@ -25,12 +27,33 @@ pub fn pour_node(m: IntersectionMatrix, a: Position, b: Position) -> Intersectio
     set_at_least_if_in_both(m, a, b, Dimensions::ZeroDimensional)
 }
 
+// Whether raising would change nothing: a none, or a cell that is at least d.
+fn held(m: IntersectionMatrix, a: Position, b: Position, d: Dimensions) -> bool
+    ensures { λ r. ⌜ r ≡ heldOf m a b d ⌝ }
+{
+    let i = row(a);
+    let j = row(b);
+    if 3 <= i {
+        return true;
+    }
+    if 3 <= j {
+        return true;
+    }
+    number(d) <= number(m[i][j])
+}
+
+// Most raises around a node find the cell raised already: then the matrix is not written again.
 fn pour_side(m: IntersectionMatrix, l: Label, s: Side, d: Dimensions) -> IntersectionMatrix
     ensures { λ r. ⌜ r ≡ pourSide s d l m ⌝ }
 {
     let a = l.a;
     let b = l.b;
-    set_at_least_if_in_both(m, position(a, s), position(b, s), d)
+    let pa = position(a, s);
+    let pb = position(b, s);
+    if held(m, pa, pb, d) {
+        return m;
+    }
+    set_at_least_if_in_both(m, pa, pb, d)
 }
 
 // A label raises (on A, on B) to 1 and, if an area, (left A, left B) and (right A, right B) to 2.
