@@ -5,4 +5,3 @@ pub mod LawsReportTrip
 pub mod LawsEnds
 pub mod LawsRecord
 pub mod LawsRecordOrder
-pub mod LawsFew

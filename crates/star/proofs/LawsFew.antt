@@ -40,7 +40,7 @@ from-length (e ∷ es) ds = omega (arith, from-length es (insertDir (e .dir) ds)
 pub joined-few : (es : List EdgeEnd) → length (joinedOf es) ≤ length es
 joined-few es = omega (arith, from-length es [], length-map (bundlesOf es) joinOf, length-map (dirsOf es) (bundleAt es))
 
-completed-length : (pa pb : Position) (ls : List Label) → length (completedOf pa pb ls) ≡ length ls
+pub completed-length : (pa pb : Position) (ls : List Label) → length (completedOf pa pb ls) ≡ length ls
 unfolding filledOf
 completed-length pa pb ls = length-map (walkedOf ls) _ ∙ walked-length ls
 

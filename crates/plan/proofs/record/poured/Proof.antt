@@ -9,7 +9,7 @@ use Rattle.star.specs.Calls.{completedStar}
 use Rattle.star.specs.Completing.{missingLeft, completedOf}
 use Rattle.star.specs.Star.{joinedOf}
 use Rattle.plan.proofs.LawsRecord.{answeredStar, Whole, whole-star, refused-star}
-use Rattle.plan.proofs.LawsFew.{star-few}
+use Rattle.star.proofs.LawsFew.{joined-few, completed-length}
 use Rattle.plan.proofs.record.poured.Statement.{statement}
 use Rattle.plan.proofs.record.poured.Tie as tie
 
@@ -19,7 +19,7 @@ pour-labels-requires c κs =
     let s = c .before .before .before .before .before .before .args in
     let es = take (s .n) (s .ends) in
     let ls = completedOf (s .at .p) (s .at .q) (joinedOf es) in
-    let few : length ls ≤ 32 = omega (arith, star-few (s .at .p) (s .at .q) es, length-take (s .n) (s .ends), c .before .before .before .before .before .before .pre .few) in
+    let few : length ls ≤ 32 = omega (arith, completed-length (s .at .p) (s .at .q) (joinedOf es), joined-few es, length-take (s .n) (s .ends), c .before .before .before .before .before .before .pre .few) in
     let e : c .before .before .before .before .before .star-of .result ≡ answeredStar (missingLeft (joinedOf es)) ls = c .before .before .before .before .before .star-of .ensures in
     let w : Whole (missingLeft (joinedOf es)) ls (answeredStar (missingLeft (joinedOf es)) ls) =
     whole-star (missingLeft (joinedOf es)) ls few (sym (ap (λ (x : Labeled). x .answer) e) ∙ c .before .before .enum-told .given .1) in
@@ -31,7 +31,7 @@ returns c =
     let s = c .before .before .before .before .before .before .before .before .args in
     let es = take (s .n) (s .ends) in
     let ls = completedOf (s .at .p) (s .at .q) (joinedOf es) in
-    let few : length ls ≤ 32 = omega (arith, star-few (s .at .p) (s .at .q) es, length-take (s .n) (s .ends), c .before .before .before .before .before .before .before .before .pre .few) in
+    let few : length ls ≤ 32 = omega (arith, completed-length (s .at .p) (s .at .q) (joinedOf es), joined-few es, length-take (s .n) (s .ends), c .before .before .before .before .before .before .before .before .pre .few) in
     let e : c .before .before .before .before .before .before .before .star-of .result ≡ answeredStar (missingLeft (joinedOf es)) ls = c .before .before .before .before .before .before .before .star-of .ensures in
     let w : Whole (missingLeft (joinedOf es)) ls (answeredStar (missingLeft (joinedOf es)) ls) =
     whole-star (missingLeft (joinedOf es)) ls few (sym (ap (λ (x : Labeled). x .answer) e) ∙ c .before .before .before .before .enum-told .given .1) in
