@@ -25,7 +25,8 @@ third s (suc zero) h = absurd (omega arith)
 third s (suc (suc j)) h = refl
 
 -- one more entry of a table
-pub table-next : (f : ℕ → ℕ) (out : List ℕ) (k : ℕ) → k < length out → take k out ≡ table k f → take (k + 1) (set out k (f k)) ≡ table (k + 1) f
+pub table-next : (f : ℕ → ℕ) (out : List ℕ) (k : ℕ) → k < length out → take k out ≡ table k f
+    → take (k + 1) (set out k (f k)) ≡ table (k + 1) f
 unfolding table
 table-next f out k h e = rw (add-one, take-suc-set out k (f k) h, e) refl
 
@@ -35,7 +36,8 @@ table-all f out k h e = sym (take-all k out h) ∙ e
 bad-good : {A : Type 0} {es : List EdgeEnd} {r : Refusal} → bad r ≡ good es → A
 bad-good q = absurd (let z : _≡_ {A = ℕ} 0 1 = cc in omega arith)
 
-few-by : (n : ℕ) (t u : Bool) (x y : Refusal) (rest : Ends) (es : List EdgeEnd) → ltb 32 n ≡ u → cond t (cond u (bad x) rest) (bad y) ≡ good es → n ≤ 32
+few-by : (n : ℕ) (t u : Bool) (x y : Refusal) (rest : Ends) (es : List EdgeEnd) → ltb 32 n ≡ u
+    → cond t (cond u (bad x) rest) (bad y) ≡ good es → n ≤ 32
 few-by n false u x y rest es e q = bad-good q
 few-by n true true x y rest es e q = bad-good q
 few-by n true false x y rest es e q = ltb-false 32 n e
@@ -43,7 +45,8 @@ few-by n true false x y rest es e q = ltb-false 32 n e
 -- ends that were read are at most 32
 pub call-few : (s : List ℕ) (es : List EdgeEnd) → endsCall s ≡ good es → length s / 15 ≤ 32
 unfolding endsCall
-call-few s es q = few-by (length s / 15) (eqb (length s % 15) 0) (ltb 32 (length s / 15)) R.Ends R.Length (readEnds (length s / 15) s 0) es refl q
+call-few s es q = few-by (length s / 15) (eqb (length s % 15) 0) (ltb 32 (length s / 15)) R.Ends R.Length
+    (readEnds (length s / 15) s 0) es refl q
 
 -- a call on the first n of an array is a call on the list of them
 module _ (ends : List EdgeEnd) (n : ℕ) (h : n ≤ length ends) where

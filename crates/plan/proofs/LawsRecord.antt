@@ -59,14 +59,17 @@ ends-by (E.Is e) (good fs) [] one more q k h = absurd (omega arith)
 ends-by (E.Is e) (good fs) (x ∷ xs) one more q zero h = let f : e ≡ x = cc in rw (← f) (one e refl)
 ends-by (E.Is e) (good fs) (x ∷ xs) one more q (suc k) h = let f : fs ≡ xs = cc in more xs (ap good f) k (omega arith)
 
-ends-sound : (n : ℕ) (s : List ℕ) (at : ℕ) (es : List EdgeEnd) → readEnds n s at ≡ good es → (k : ℕ) → k < length es → zeroDir (dirAt es k) ≡ false
+ends-sound : (n : ℕ) (s : List ℕ) (at : ℕ) (es : List EdgeEnd) → readEnds n s at ≡ good es → (k : ℕ) → k < length es
+    → zeroDir (dirAt es k) ≡ false
 unfolding readEnds
 ends-sound zero s at [] q k h = absurd (omega arith)
-ends-sound zero s at (e ∷ es) q k h = absurd (let z : _≡_ {A = List EdgeEnd} [] (e ∷ es) = cc in let y : _≡_ {A = ℕ} 0 1 = cc in omega arith)
+ends-sound zero s at (e ∷ es) q k h = absurd (let z : _≡_ {A = List EdgeEnd} []
+    (e ∷ es) = cc in let y : _≡_ {A = ℕ} 0 1 = cc in omega arith)
 ends-sound (suc n) s at es q k h =
     ends-by (endAt s at) (readEnds n s (at + 15)) es (λ e. end-sound s at e) (λ fs p. ends-sound n s (at + 15) fs p) q k h
 
-pub read-sound : (n : ℕ) (s : List ℕ) (at : ℕ) (ends : List EdgeEnd) → n ≤ 32 → length ends ≡ 32 → readEnds n s at ≡ good (take n ends) → Sound ends n
+pub read-sound : (n : ℕ) (s : List ℕ) (at : ℕ) (ends : List EdgeEnd) → n ≤ 32 → length ends ≡ 32 → readEnds n s at ≡ good (take n ends)
+    → Sound ends n
 read-sound n s at ends h l q =
     record {
       few = h;
@@ -98,6 +101,7 @@ whole-star false ls l q =
       labels = take-append-seam ls (replicate (32 - length ls) blank);
     }
 
-pub refused-star : (miss : Bool) (ls : List Label) (r : Refusal) → answeredStar miss ls .answer ≡ S.Refused r → (miss ≡ true) × (MissingLeft ≡ r)
+pub refused-star : (miss : Bool) (ls : List Label) (r : Refusal) → answeredStar miss ls .answer ≡ S.Refused r
+    → (miss ≡ true) × (MissingLeft ≡ r)
 refused-star true ls r q = (refl, cc)
 refused-star false ls r q = completed-refused q

@@ -57,7 +57,8 @@ passed false false false b₄ x ns e = refused-not-read Length ns e
 passed false false true false x ns e = refused-not-read Version ns e
 passed false false true true x ns e = record { two = refl; whole = refl; ten = refl; one = refl; letters = e }
 
-letters-accepted : (p : Parsed) (c ns : List ℕ) → byLetters p c ≡ readAs ns → _≡_ {A = TextAnswer} (record { parsed = p; cells = c }) (accepted ns)
+letters-accepted : (p : Parsed) (c ns : List ℕ) → byLetters p c ≡ readAs ns
+    → _≡_ {A = TextAnswer} (record { parsed = p; cells = c }) (accepted ns)
 letters-accepted P.Accepted c ns e = ap (λ (k : List ℕ). accepted k) (ap (λ (a : ReportAnswer). a .cells) e)
 letters-accepted (P.Refused r) c ns e = refused-not-read r ns e
 

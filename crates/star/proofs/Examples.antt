@@ -32,7 +32,8 @@ back = record { on = OnBoundary; left = Outside; right = Inside }
 
 -- P14: two boundary ends give Inside, three OnBoundary
 pub p14 : (halfJoined A (end (pos 1) (pos 0) forth noSides ∷ end (pos 1) (pos 0) back noSides ∷ []) .on ≡ Inside)
-    × (halfJoined A (end (pos 1) (pos 0) forth noSides ∷ end (pos 1) (pos 0) back noSides ∷ end (pos 1) (pos 0) back noSides ∷ []) .on ≡ OnBoundary)
+    × (halfJoined A (end (pos 1) (pos 0) forth noSides ∷ end (pos 1) (pos 0) back noSides ∷ end (pos 1)
+    (pos 0) back noSides ∷ []) .on ≡ OnBoundary)
 unfolding halfJoined onJoined sideJoined count
 p14 = (refl, refl)
 
@@ -46,6 +47,7 @@ four =
 
 -- P1: nothing is refused, and the result is 212101212
 pub p1 : (missingLeft (joinedOf four) ≡ false)
-    × (cellsOf (pourLabels (pourNode startMatrix OnBoundary OnBoundary) (completedOf OnBoundary OnBoundary (joinedOf four))) ≡ 3 ∷ 2 ∷ 3 ∷ 2 ∷ 1 ∷ 2 ∷ 3 ∷ 2 ∷ 3 ∷ [])
+    × (cellsOf (pourLabels (pourNode startMatrix OnBoundary OnBoundary)
+    (completedOf OnBoundary OnBoundary (joinedOf four))) ≡ 3 ∷ 2 ∷ 3 ∷ 2 ∷ 1 ∷ 2 ∷ 3 ∷ 2 ∷ 3 ∷ [])
 unfolding orderOf count onJoined sideJoined halfJoined joinOf insertDir dirsFrom keep startOf walkFrom walkOf any missingLeft filledOf pourNode pourLabel pourLabels
 p1 = (refl, refl)

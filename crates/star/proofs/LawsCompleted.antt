@@ -37,7 +37,8 @@ fill-known area r s h =
       right-known = λ e. rw e (or-known (s .right) r h);
     }
 
-label-known : (g : Geometry) (ra rb : Position) (l : Label) → isNone ra ≡ false → isNone rb ≡ false → Known (l .area) (halfOf g (fillLabel ra rb l))
+label-known : (g : Geometry) (ra rb : Position) (l : Label) → isNone ra ≡ false → isNone rb ≡ false
+    → Known (l .area) (halfOf g (fillLabel ra rb l))
 label-known A ra rb l h k = fill-known (l .area) ra (l .a) h
 label-known B ra rb l h k = fill-known (l .area) rb (l .b) k
 

@@ -42,7 +42,8 @@ unfolding firstFault
 all-fine [] h = none
 all-fine (e ∷ es) h = go (faultOf e) refl h (λ k. all-fine es k)
   where
-    go : (c : Checked) → faultOf e ≡ c → orFault c (firstFault es) ≡ Fine → (firstFault es ≡ Fine → All (λ x. faultOf x ≡ Fine) es) → All (λ x. faultOf x ≡ Fine) (e ∷ es)
+    go : (c : Checked) → faultOf e ≡ c → orFault c (firstFault es) ≡ Fine → (firstFault es ≡ Fine → All (λ x. faultOf x ≡ Fine) es)
+        → All (λ x. faultOf x ≡ Fine) (e ∷ es)
     go Fine f k rec = more f (rec k)
     go (Refused r) f k rec = never k
 
@@ -69,5 +70,6 @@ checked-sound ends n len h = go (ltb 32 n) refl
         let a = all-fine (take n ends) (sym (rw k refl) ∙ h) in
         record {
           few = f;
-          sound = λ j p. rw (getD-take n ends j noEnd p) at (fine-dir (getD (take n ends) j noEnd) (all-at noEnd a j (omega (arith, length-take-le n ends (omega arith)))));
+          sound = λ j p. rw (getD-take n ends j noEnd p) at (fine-dir (getD (take n ends) j noEnd)
+              (all-at noEnd a j (omega (arith, length-take-le n ends (omega arith)))));
         }

@@ -60,4 +60,5 @@ module _ (es : List EdgeEnd) (pa pb : Position) (e : starOf es pa pb .answer ≡
   unfolding completedStar
   star-labels =
       rw (accepted (missingLeft (joinedOf es)) refl)
-      (take-at (completedOf pa pb (joinedOf es)) (replicate (32 - length (completedOf pa pb (joinedOf es))) blank) (length (completedOf pa pb (joinedOf es))) refl)
+      (take-at (completedOf pa pb (joinedOf es)) (replicate (32 - length (completedOf pa pb (joinedOf es))) blank)
+      (length (completedOf pa pb (joinedOf es))) refl)

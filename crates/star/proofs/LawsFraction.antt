@@ -2,7 +2,15 @@
 use Prim.Native.Nat.{ℕ, zero, suc, _+_, _*_, _≤_, _<_}
 use mathlib.Core.Path.{_≡_, refl}
 use native.Mathlib.Omega.{arith}
-use native.Mathlib.Nat.{add-mul, mul-comm, mul-left-comm, mul-le-mul-left, mul-lt-mul-of-pos-left, le-of-mul-le-mul-left, lt-of-mul-lt-mul-left}
+use native.Mathlib.Nat.{
+  add-mul,
+  mul-comm,
+  mul-left-comm,
+  mul-le-mul-left,
+  mul-lt-mul-of-pos-left,
+  le-of-mul-le-mul-left,
+  lt-of-mul-lt-mul-left,
+}
 
 -- three factors, the first and the last exchanged
 ends-swap : (a b c : ℕ) → a * (b * c) ≡ c * (b * a)

@@ -5,7 +5,20 @@ use mathlib.Core.List.{List, [], _∷_, _++_, map, append-assoc}
 use native.Mathlib.Omega.{arith}
 use native.Mathlib.Nat.{add-zero}
 use native.Mathlib.Numerals.{add-one}
-use lib.ListN.{length, take, drop, getD, set, replicate, length-append, length-map, length-take, length-set, drop-of-length-le, take-append-drop}
+use lib.ListN.{
+  length,
+  take,
+  drop,
+  getD,
+  set,
+  replicate,
+  length-append,
+  length-map,
+  length-take,
+  length-set,
+  drop-of-length-le,
+  take-append-drop,
+}
 use Rattle.star.specs.Walking.{scan}
 use lib.Seq.{drop-cons, getD-take, getD-drop, drop-drop, drop-set-lt, take-suc, take-suc-set, append-snoc, length-take-le, set-at}
 
@@ -74,19 +87,22 @@ pub pad-step : {X : Type 0} (z : X) (n : ℕ) (xs : List X) (v : X) (i : ℕ) �
 pad-step z n xs v i e h =
     let l : length (xs ++ (v ∷ [])) ≡ suc (length xs) = length-append xs (v ∷ []) ∙ omega arith in
     let m : n - length xs ≡ suc (n - length (xs ++ (v ∷ []))) = omega arith in
-    rw m (set-at xs z (replicate (n - length (xs ++ (v ∷ []))) z) v i e ∙ sym (append-snoc xs v (replicate (n - length (xs ++ (v ∷ []))) z)))
+    rw m (set-at xs z (replicate (n - length (xs ++ (v ∷ []))) z) v i e ∙ sym
+    (append-snoc xs v (replicate (n - length (xs ++ (v ∷ []))) z)))
 
 -- a loop that fills an array of size n with f of each element of a list
 pub filled-next : {X Y : Type 0} (z : X) (y : Y) (n : ℕ) (f : Y → X) (l : List Y) (i : ℕ) → i < length l → i < n
     → set (padTo n z (map f (take i l))) i (f (getD l i y)) ≡ padTo n z (map f (take (i + 1) l))
 filled-next z y n f l i h k =
     let e : length (map f (take i l)) ≡ i = length-map (take i l) f ∙ length-take-le i l (omega arith) in
-    pad-step z n (map f (take i l)) (f (getD l i y)) i e k ∙ ap (padTo n z) (sym (ap (map f) (take-more y l i h) ∙ map-append f (take i l) (getD l i y ∷ [])))
+    pad-step z n (map f (take i l)) (f (getD l i y)) i e k ∙ ap (padTo n z)
+    (sym (ap (map f) (take-more y l i h) ∙ map-append f (take i l) (getD l i y ∷ [])))
 
 -- a walk over the first n of an array that changes each element and carries a state
 module _ {S X : Type 0} (z : X) (f : S → X → X) (h : S → X → S) (a b : List X) (s : S) (i n : ℕ) where
   pub scan-step : i < n → n ≤ length b → length a ≡ length b → drop i a ≡ drop i b
-      → take (i + 1) (set a i (f s (getD a i z))) ++ scan f h (h s (getD a i z)) (drop (i + 1) (take n b)) ≡ take i a ++ scan f h s (drop i (take n b))
+      → take (i + 1) (set a i (f s (getD a i z))) ++ scan f h (h s (getD a i z)) (drop (i + 1) (take n b)) ≡ take i a ++ scan f h s
+      (drop i (take n b))
   unfolding scan
   scan-step p k l e =
       let g : i < length a = omega arith in

@@ -24,7 +24,8 @@ use Rattle.star.proofs.LawsLists.{rest, none-left}
 
 -- the labels that are left to pour
 module _ (m : Matrix) (ls : List Label) (n i : ℕ) where
-  pub pour-next : i < n → n ≤ length ls → pourLabels m (drop i (take n ls)) ≡ pourLabels (pourLabel m (getD ls i blank)) (drop (i + 1) (take n ls))
+  pub pour-next : i < n → n ≤ length ls → pourLabels m (drop i (take n ls)) ≡ pourLabels (pourLabel m (getD ls i blank))
+      (drop (i + 1) (take n ls))
   unfolding pourLabels
   pour-next h k = rw (rest blank ls i n h k) refl
 
@@ -57,7 +58,8 @@ put-column m i j q d s h f =
     rw (getD-set-same m i (set (getD m i []) j d) [] (omega arith)) (getD-set-other (getD m i []) j q d Empty f)
 
 raise-at : (m : Matrix) (p q i j : ℕ) (d : Dimensions) → Shaped m → i < 3 → j < 3
-    → numberIn (cond (ltb p 3 && ltb q 3) (putAt m p q (larger (cellAt m p q) d)) m) i j ≡ max (numberIn m i j) (cond (eqb p i && eqb q j) (dimNo d) 0)
+    → numberIn (cond (ltb p 3 && ltb q 3) (putAt m p q (larger (cellAt m p q) d)) m) i j ≡ max (numberIn m i j)
+    (cond (eqb p i && eqb q j) (dimNo d) 0)
 raise-at m p q i j d s h k = go (ltb p 3) (ltb q 3) refl refl
   where
     here : (t u : Bool) → eqb p i ≡ t → eqb q j ≡ u
@@ -72,7 +74,8 @@ raise-at m p q i j d s h k = go (ltb p 3) (ltb q 3) refl refl
     apart x y e l = ne-eqb x y (λ w. omega (arith, ltb-false x 3 e))
 
     go : (t u : Bool) → ltb p 3 ≡ t → ltb q 3 ≡ u
-        → numberIn (cond (ltb p 3 && ltb q 3) (putAt m p q (larger (cellAt m p q) d)) m) i j ≡ max (numberIn m i j) (cond (eqb p i && eqb q j) (dimNo d) 0)
+        → numberIn (cond (ltb p 3 && ltb q 3) (putAt m p q (larger (cellAt m p q) d)) m) i j ≡ max (numberIn m i j)
+        (cond (eqb p i && eqb q j) (dimNo d) 0)
     go true true e f = rw (e, f) (here (eqb p i) (eqb q j) refl refl)
     go true false e f = rw (e, f, apart q j f k, and-false (eqb p i)) (omega arith)
     go false u e f = rw (e, apart p i e h) (omega arith)
@@ -89,8 +92,10 @@ module _ (m : Matrix) (a b : Position) (d : Dimensions) (s : Shaped m) where
       row i v h true e =
           let r : i ≡ rowOf a = eqb-true i (rowOf a) e in
           let l : rowOf a < length m = omega (arith, s .three) in
-          rw (r, getD-set-same m (rowOf a) (set (getD m (rowOf a) []) (rowOf b) v) [] l) (length-set (getD m (rowOf a) []) (rowOf b) v ∙ s .rows (rowOf a) (omega arith))
-      row i v h false e = rw (getD-set-other m (rowOf a) i (set (getD m (rowOf a) []) (rowOf b) v) [] (eqb-false i (rowOf a) e)) (s .rows i h)
+          rw (r, getD-set-same m (rowOf a) (set (getD m (rowOf a) []) (rowOf b) v) [] l)
+          (length-set (getD m (rowOf a) []) (rowOf b) v ∙ s .rows (rowOf a) (omega arith))
+      row i v h false e = rw (getD-set-other m (rowOf a) i (set (getD m (rowOf a) []) (rowOf b) v) [] (eqb-false i (rowOf a) e))
+          (s .rows i h)
 
       go : (t : Bool) → Shaped (cond t (putAt m (rowOf a) (rowOf b) (larger (cellAt m (rowOf a) (rowOf b)) d)) m)
       go true =
@@ -112,11 +117,14 @@ module _ (l : Label) where
       left : Shaped (pourSide Left TwoDimensional l (pourSide On OneDimensional l m))
       left = raise-shape (pourSide On OneDimensional l m) (l .a .left) (l .b .left) TwoDimensional on
 
-      go : (t : Bool) → Shaped (cond t (pourSide Right TwoDimensional l (pourSide Left TwoDimensional l (pourSide On OneDimensional l m))) (pourSide On OneDimensional l m))
-      go true = raise-shape (pourSide Left TwoDimensional l (pourSide On OneDimensional l m)) (l .a .right) (l .b .right) TwoDimensional left
+      go : (t : Bool) → Shaped (cond t (pourSide Right TwoDimensional l
+          (pourSide Left TwoDimensional l (pourSide On OneDimensional l m))) (pourSide On OneDimensional l m))
+      go true = raise-shape (pourSide Left TwoDimensional l (pourSide On OneDimensional l m)) (l .a .right)
+          (l .b .right) TwoDimensional left
       go false = on
 
-  pub label-cell : (m : Matrix) → Shaped m → (i j : ℕ) → i < 3 → j < 3 → numberIn (pourLabel m l) i j ≡ max (numberIn m i j) (labelInto l i j)
+  pub label-cell : (m : Matrix) → Shaped m → (i j : ℕ) → i < 3 → j < 3
+      → numberIn (pourLabel m l) i j ≡ max (numberIn m i j) (labelInto l i j)
   unfolding pourLabel
   label-cell m s i j h k = go (l .area)
     where
@@ -132,14 +140,17 @@ module _ (l : Label) where
       s₂ : Shaped m₂
       s₂ = raise-shape m₁ (l .a .left) (l .b .left) TwoDimensional s₁
 
-      go : (t : Bool) → numberIn (cond t (pourSide Right TwoDimensional l (pourSide Left TwoDimensional l (pourSide On OneDimensional l m))) (pourSide On OneDimensional l m)) i j
-          ≡ max (numberIn m i j) (max (into (l .a .on) (l .b .on) OneDimensional i j) (cond t (max (into (l .a .left) (l .b .left) TwoDimensional i j) (into (l .a .right) (l .b .right) TwoDimensional i j)) 0))
+      go : (t : Bool) → numberIn (cond t (pourSide Right TwoDimensional l
+          (pourSide Left TwoDimensional l (pourSide On OneDimensional l m))) (pourSide On OneDimensional l m)) i j
+          ≡ max (numberIn m i j) (max (into (l .a .on) (l .b .on) OneDimensional i j)
+          (cond t (max (into (l .a .left) (l .b .left) TwoDimensional i j) (into (l .a .right) (l .b .right) TwoDimensional i j)) 0))
       go true =
           omega (
             arith,
             raise-cell m (l .a .on) (l .b .on) OneDimensional s i j h k,
             raise-cell (pourSide On OneDimensional l m) (l .a .left) (l .b .left) TwoDimensional s₁ i j h k,
-            raise-cell (pourSide Left TwoDimensional l (pourSide On OneDimensional l m)) (l .a .right) (l .b .right) TwoDimensional s₂ i j h k,
+            raise-cell (pourSide Left TwoDimensional l (pourSide On OneDimensional l m)) (l .a .right)
+                (l .b .right) TwoDimensional s₂ i j h k,
           )
       go false = omega (arith, raise-cell m (l .a .on) (l .b .on) OneDimensional s i j h k)
 
@@ -160,7 +171,8 @@ held-put : (m : Matrix) (i j : ℕ) (d : Dimensions) (t : Bool) → cond t (leb 
     → cond t (putAt m i j (larger (cellAt m i j) d)) m ≡ m
 held-put m i j d false h = refl
 held-put m i j d true h =
-    let l : larger (cellAt m i j) d ≡ cellAt m i j = rw (le-ltb (dimNo (cellAt m i j)) (dimNo d) (leb-true (dimNo d) (dimNo (cellAt m i j)) h)) refl in
+    let l : larger (cellAt m i j) d ≡ cellAt m i j = rw (le-ltb (dimNo (cellAt m i j)) (dimNo d)
+    (leb-true (dimNo d) (dimNo (cellAt m i j)) h)) refl in
     rw (l, set-getD (getD m i []) j Empty, set-getD m i []) refl
 
 pub held-same : (m : Matrix) (a b : Position) (d : Dimensions) → heldOf m a b d ≡ true → atLeastOf m a b d ≡ m

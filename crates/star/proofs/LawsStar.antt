@@ -35,7 +35,8 @@ unfolding lookedOf foundOf
 looked-start xs w e = (rw e refl, rw e refl)
 
 module _ (ls : List Label) (n : ℕ) (h : n ≤ 32) (len : length ls ≡ 32) (pad : ls ≡ padded (take n ls)) (pa pb : Position)
-    (walk : List Label) (e : walk ≡ walkBoth (record { a = startOf A (take n ls); b = startOf B (take n ls) }) (take n ls) ++ drop n ls) where
+    (walk : List Label) (e : walk ≡ walkBoth (record { a = startOf A (take n ls); b = startOf B (take n ls) })
+    (take n ls) ++ drop n ls) where
   abbrev xs : List Label
   xs = take n ls
 
@@ -60,7 +61,8 @@ module _ (ls : List Label) (n : ℕ) (h : n ≤ 32) (len : length ls ≡ 32) (pa
   pub done-count : n ≡ length (completedOf pa pb xs)
   done-count = sym done-length
 
-  pub done : map (fillLabel (restOf (collapses A (lastOf (take n walk))) pa) (restOf (collapses B (lastOf (take n walk))) pb)) (take n walk) ++ drop n walk ≡ padded (completedOf pa pb xs)
+  pub done : map (fillLabel (restOf (collapses A (lastOf (take n walk))) pa) (restOf (collapses B (lastOf (take n walk))) pb))
+      (take n walk) ++ drop n walk ≡ padded (completedOf pa pb xs)
   unfolding filledOf
   done = rw (done-length, front, back) refl
 

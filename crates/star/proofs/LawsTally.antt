@@ -106,7 +106,8 @@ side-mark Outside = refl
 
 -- a label's mark: a digit for each test it passes
 marked : (area : Bool) (s : Sides)
-    → markOf area s ≡ digits (bit (isPos (s .on) OnBoundary)) (bit (isPos (s .on) Inside)) (bit (area && isPos (s .left) Inside)) (bit (area && isPos (s .left) Outside)) (bit (area && isPos (s .right) Inside)) (bit (area && isPos (s .right) Outside))
+    → markOf area s ≡ digits (bit (isPos (s .on) OnBoundary)) (bit (isPos (s .on) Inside)) (bit (area && isPos (s .left) Inside))
+    (bit (area && isPos (s .left) Outside)) (bit (area && isPos (s .right) Inside)) (bit (area && isPos (s .right) Outside))
 marked true s = omega (arith, on-mark (s .on), side-mark (s .left), side-mark (s .right))
 marked false s = omega (arith, on-mark (s .on))
 

@@ -14,7 +14,22 @@ use Rattle.star.specs.declared.label.Geometry.the-variants.{A, B}
 use Rattle.star.specs.declared.label.Label.{Label}
 use Rattle.star.specs.declared.«edge_end_bundle_star».Current.{Current}
 use Rattle.star.specs.Label.{halfOf, isNone, orElse}
-use Rattle.star.specs.Completing.{areaLeft, startOf, walkSides, walkNext, putHalf, walkFrom, walkOf, walkedOf, any, hasLeft, rightAlone, missing, missingLeft, lastOf}
+use Rattle.star.specs.Completing.{
+  areaLeft,
+  startOf,
+  walkSides,
+  walkNext,
+  putHalf,
+  walkFrom,
+  walkOf,
+  walkedOf,
+  any,
+  hasLeft,
+  rightAlone,
+  missing,
+  missingLeft,
+  lastOf,
+}
 use Rattle.star.specs.Walking.{scan, walkLabel, nextLabel, walkBoth, foundOf, lookedOf, seenOf, lookLabel}
 
 -- one walk for both
@@ -100,7 +115,8 @@ walk-start : (g : Geometry) (ls : List Label) → walkOf g ls ≡ walkFrom g (st
 unfolding walkOf
 walk-start g ls = go (isNone (startOf g ls)) refl
   where
-    go : (t : Bool) → isNone (startOf g ls) ≡ t → cond (isNone (startOf g ls)) ls (walkFrom g (startOf g ls) ls) ≡ walkFrom g (startOf g ls) ls
+    go : (t : Bool) → isNone (startOf g ls) ≡ t
+        → cond (isNone (startOf g ls)) ls (walkFrom g (startOf g ls) ls) ≡ walkFrom g (startOf g ls) ls
     go true h = rw h (rw (is-none (startOf g ls) h) (sym (idle g ls (is-none (startOf g ls) h))))
     go false h = rw h refl
 

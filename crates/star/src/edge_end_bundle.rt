@@ -71,7 +71,7 @@ fn mark(area: bool, s: Sides) -> u64
         )
 }
 
-pub fn no_tally() -> Tally
+pub(crate) fn no_tally() -> Tally
     ensures { λ r. ⌜ r ≡ record { areas = 0; a = 0; b = 0 } ⌝ }
 {
     Tally {
@@ -81,7 +81,7 @@ pub fn no_tally() -> Tally
     }
 }
 
-pub fn add(t: Tally, l: Label) -> Tally
+pub(crate) fn add(t: Tally, l: Label) -> Tally
     requires { ⌜ Small t ⌝ }
     ensures { λ r. ⌜ r ≡ added t l ⌝ }
 {

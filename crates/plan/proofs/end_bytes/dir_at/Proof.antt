@@ -11,7 +11,14 @@ unfolding dirAt
 returns c =
     let f : SFits w32 (c .before .before .signed-of .result) = search needs in
     let g : SFits w32 (c .signed-of2 .result) = search needs in
-    rw (toZ-ofZ f, toZ-ofZ g, c .signed-of2 .ensures, c .before .word-at2 .ensures .0, c .before .before .signed-of .ensures, c .before .before .before .word-at .ensures .0)
+    rw (
+      toZ-ofZ f,
+      toZ-ofZ g,
+      c .signed-of2 .ensures,
+      c .before .word-at2 .ensures .0,
+      c .before .before .signed-of .ensures,
+      c .before .before .before .word-at .ensures .0,
+    )
 
 pub dir-at-spec : {M : Type 1} → statement M
 dir-at-spec =

@@ -5,7 +5,13 @@ use Rattle.plan.proofs.end_bytes.end_at.Tie as tie
 
 returns : tie.Need-returns
 unfolding endAt
-returns c = simp (c .pick .ensures, c .before .end-with .ensures, c .before .before .label-at .ensures, c .before .before .before .bad-dir .ensures, c .before .before .before .before .dir-at .ensures)
+returns c = simp (
+  c .pick .ensures,
+  c .before .end-with .ensures,
+  c .before .before .label-at .ensures,
+  c .before .before .before .bad-dir .ensures,
+  c .before .before .before .before .dir-at .ensures,
+)
 
 pub end-at-spec : {M : Type 1} → statement M
 end-at-spec =

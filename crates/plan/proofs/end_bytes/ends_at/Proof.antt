@@ -17,13 +17,22 @@ abbrev μ-loop : tie.MeasureT-loop
 μ-loop s at n ends₀ i₀ p₀ ends i p = n - i
 
 loop-holds : tie.Need-loop-holds Inv-loop μ-loop
-loop-holds c = (omega arith, omega arith, search needs, start (c .before .before .args .n) (c .before .before .args .s .now) (c .before .before .args .at))
+loop-holds c = (
+  omega arith,
+  omega arith,
+  search needs,
+  start (c .before .before .args .n) (c .before .before .args .s .now)
+      (c .before .before .args .at),
+)
 
 returns : tie.Need-returns Inv-loop μ-loop
 returns c =
     let l = c .before .before .before .before .before .loop in
-    let b = c .before .before .before .before .before .before .before .before in
-    (l .inv .3 ∙ one-bad (b .args .s .now) (l .ends) (l .p) (b .args .n) (l .i) _ (omega arith) (sym (c .before .before .before .end-at .ensures) ∙ c .before .r .given .1), l .inv .2)
+    let b = c .before .before .before .before .before .before .before .before in (
+      l .inv .3 ∙ one-bad (b .args .s .now) (l .ends) (l .p) (b .args .n) (l .i) _ (omega arith)
+          (sym (c .before .before .before .end-at .ensures) ∙ c .before .r .given .1),
+      l .inv .2,
+    )
 
 loop-again : tie.Need-loop-again Inv-loop μ-loop
 loop-again c =
@@ -33,7 +42,8 @@ loop-again c =
       omega arith,
       simp length-set (l .inv .2),
       l .inv .3 ∙
-          one-read (b .args .s .now) (l .ends) (l .p) (b .args .n) (l .i) _ (omega arith) (omega arith) (sym (c .before .before .before .end-at .ensures) ∙ c .before .e .given .1),
+          one-read (b .args .s .now) (l .ends) (l .p) (b .args .n) (l .i) _ (omega arith) (omega arith)
+          (sym (c .before .before .before .end-at .ensures) ∙ c .before .e .given .1),
     )
 
 returns-2 : tie.Need-returns-2 Inv-loop μ-loop

@@ -10,11 +10,17 @@ returns c = (simp (ne-eqb _ _ (c .before .if1 .taken), c .unread .ensures .0), c
 
 returns-2 : tie.Need-returns-2
 unfolding endsCall
-returns-2 c = (simp (eq-eqb _ _ (c .before .before .if1 .left), lt-ltb _ _ (c .before .if2 .taken), c .unread2 .ensures .0), c .unread2 .ensures .1)
+returns-2 c = (
+  simp (eq-eqb _ _ (c .before .before .if1 .left), lt-ltb _ _ (c .before .if2 .taken), c .unread2 .ensures .0),
+  c .unread2 .ensures .1,
+)
 
 returns-3 : tie.Need-returns-3
 unfolding endsCall
-returns-3 c = (simp (eq-eqb _ _ (c .before .before .if1 .left), le-ltb _ _ (c .before .if2 .left)) (c .ends-at .ensures .0), c .ends-at .ensures .1)
+returns-3 c = (
+  simp (eq-eqb _ _ (c .before .before .if1 .left), le-ltb _ _ (c .before .if2 .left)) (c .ends-at .ensures .0),
+  c .ends-at .ensures .1,
+)
 
 pub read-ends-spec : {M : Type 1} → statement M
 read-ends-spec =

@@ -5,7 +5,12 @@ use Rattle.plan.proofs.label_bytes.sides_at.Tie as tie
 
 returns : tie.Need-returns
 unfolding sidesAt
-returns c = simp (c .then-sides .ensures, c .before .coded3 .ensures, c .before .before .before .coded2 .ensures, c .before .before .before .before .before .coded .ensures)
+returns c = simp (
+  c .then-sides .ensures,
+  c .before .coded3 .ensures,
+  c .before .before .before .coded2 .ensures,
+  c .before .before .before .before .before .coded .ensures,
+)
 
 pub sides-at-spec : {M : Type 1} → statement M
 sides-at-spec =

@@ -9,7 +9,8 @@ returns : tie.Need-returns
 returns c = let s = c .before .before .before .args in c .refused .ensures ∙ sym (node-short (s .cells) (s .s .now) (omega arith))
 
 returns-2 : tie.Need-returns-2
-returns-2 c = let s = c .before .before .before .before .before .before .args in c .refused2 .ensures ∙ sym (node-many (s .cells) (s .s .now) (omega arith) (omega arith))
+returns-2 c = let s = c .before .before .before .before .before .before .args in c .refused2 .ensures ∙ sym
+    (node-many (s .cells) (s .s .now) (omega arith) (omega arith))
 
 returns-3 : tie.Need-returns-3
 returns-3 c = let s = c .before .before .before .before .before .before .before .args in
@@ -17,7 +18,8 @@ returns-3 c = let s = c .before .before .before .before .before .before .before 
 
 returns-4 : tie.Need-returns-4
 returns-4 c = let s = c .before .before .before .before .before .before .before .before .args in
-    c .with-node .ensures ∙ simp (c .before .node-at .ensures) (sym (node-body (s .cells) (s .s .now) (omega arith) (omega arith) (omega arith)))
+    c .with-node .ensures ∙ simp (c .before .node-at .ensures)
+    (sym (node-body (s .cells) (s .s .now) (omega arith) (omega arith) (omega arith)))
 
 pub node-record-spec : {M : Type 1} → statement M
 node-record-spec =

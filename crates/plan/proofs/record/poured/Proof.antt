@@ -19,8 +19,16 @@ pour-labels-requires c κs =
     let s = c .before .before .before .before .before .before .args in
     let es = take (s .n) (s .ends) in
     let ls = completedOf (s .at .p) (s .at .q) (joinedOf es) in
-    let few : length ls ≤ 32 = omega (arith, completed-length (s .at .p) (s .at .q) (joinedOf es), joined-few es, length-take (s .n) (s .ends), c .before .before .before .before .before .before .pre .few) in
-    let e : c .before .before .before .before .before .star-of .result ≡ answeredStar (missingLeft (joinedOf es)) ls = c .before .before .before .before .before .star-of .ensures in
+    let few : length ls ≤ 32 = omega (
+      arith,
+      completed-length (s .at .p) (s .at .q) (joinedOf es),
+      joined-few es,
+      length-take (s .n)
+          (s .ends),
+      c .before .before .before .before .before .before .pre .few,
+    ) in
+    let e : c .before .before .before .before .before .star-of .result ≡ answeredStar
+    (missingLeft (joinedOf es)) ls = c .before .before .before .before .before .star-of .ensures in
     let w : Whole (missingLeft (joinedOf es)) ls (answeredStar (missingLeft (joinedOf es)) ls) =
     whole-star (missingLeft (joinedOf es)) ls few (sym (ap (λ (x : Labeled). x .answer) e) ∙ c .before .before .enum-told .given .1) in
     rw e (w .few)
@@ -31,12 +39,28 @@ returns c =
     let s = c .before .before .before .before .before .before .before .before .args in
     let es = take (s .n) (s .ends) in
     let ls = completedOf (s .at .p) (s .at .q) (joinedOf es) in
-    let few : length ls ≤ 32 = omega (arith, completed-length (s .at .p) (s .at .q) (joinedOf es), joined-few es, length-take (s .n) (s .ends), c .before .before .before .before .before .before .before .before .pre .few) in
-    let e : c .before .before .before .before .before .before .before .star-of .result ≡ answeredStar (missingLeft (joinedOf es)) ls = c .before .before .before .before .before .before .before .star-of .ensures in
+    let few : length ls ≤ 32 = omega (
+      arith,
+      completed-length (s .at .p) (s .at .q) (joinedOf es),
+      joined-few es,
+      length-take (s .n)
+          (s .ends),
+      c .before .before .before .before .before .before .before .before .pre .few,
+    ) in
+    let e : c .before .before .before .before .before .before .before .star-of .result ≡ answeredStar
+    (missingLeft (joinedOf es)) ls = c .before .before .before .before .before .before .before .star-of .ensures in
     let w : Whole (missingLeft (joinedOf es)) ls (answeredStar (missingLeft (joinedOf es)) ls) =
-    whole-star (missingLeft (joinedOf es)) ls few (sym (ap (λ (x : Labeled). x .answer) e) ∙ c .before .before .before .before .enum-told .given .1) in
+    whole-star (missingLeft (joinedOf es)) ls few (sym (ap (λ
+    (x : Labeled). x .answer) e) ∙ c .before .before .before .before .enum-told .given .1) in
     c .accepted .ensures ∙
-    rw (w .none-missing, c .before .pour-labels .ensures, c .before .before .pour-node .ensures, c .before .before .before .from-cells .ensures, e, w .labels) refl
+    rw (
+      w .none-missing,
+      c .before .pour-labels .ensures,
+      c .before .before .pour-node .ensures,
+      c .before .before .before .from-cells .ensures,
+      e,
+      w .labels,
+    ) refl
 
 returns-2 : tie.Need-returns-2
 unfolding completedStar
@@ -44,7 +68,8 @@ returns-2 c =
     let s = c .before .before .before .before .before .before .args in
     let es = take (s .n) (s .ends) in
     let ls = completedOf (s .at .p) (s .at .q) (joinedOf es) in
-    let e : c .before .before .before .before .before .star-of .result ≡ answeredStar (missingLeft (joinedOf es)) ls = c .before .before .before .before .before .star-of .ensures in
+    let e : c .before .before .before .before .before .star-of .result ≡ answeredStar
+    (missingLeft (joinedOf es)) ls = c .before .before .before .before .before .star-of .ensures in
     let w = refused-star (missingLeft (joinedOf es)) ls _ (sym (ap (λ (x : Labeled). x .answer) e) ∙ c .before .before .answer .given .1) in
     c .refused .ensures ∙ rw (w .0, w .1) refl
 

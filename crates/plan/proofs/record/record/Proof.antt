@@ -9,10 +9,12 @@ returns : tie.Need-returns
 returns c = let s = c .before .before .before .args in c .refused .ensures ∙ sym (no-field (s .cells) (s .s .now) (omega arith))
 
 returns-2 : tie.Need-returns-2
-returns-2 c = let s = c .before .before .before .before .before .before .before .args in c .refused2 .ensures ∙ sym (no-body (s .cells) (s .s .now) (omega arith) (omega arith))
+returns-2 c = let s = c .before .before .before .before .before .before .before .args in c .refused2 .ensures ∙ sym
+    (no-body (s .cells) (s .s .now) (omega arith) (omega arith))
 
 returns-3 : tie.Need-returns-3
-returns-3 c = let s = c .before .before .before .before .before .before .before .before .args in c .refused3 .ensures ∙ sym (too-short (s .cells) (s .s .now) (omega arith) (omega arith) (omega arith))
+returns-3 c = let s = c .before .before .before .before .before .before .before .before .args in c .refused3 .ensures ∙ sym
+    (too-short (s .cells) (s .s .now) (omega arith) (omega arith) (omega arith))
 
 returns-4 : tie.Need-returns-4
 returns-4 c = let s = c .before .before .before .before .before .before .before .before .before .before .args in
@@ -20,15 +22,18 @@ returns-4 c = let s = c .before .before .before .before .before .before .before 
 
 returns-5 : tie.Need-returns-5
 returns-5 c = let s = c .before .before .before .before .before .before .before .before .before .before .before .before .args in
-    c .node-record .ensures ∙ sym (a-node (s .cells) (s .s .now) (omega arith) (omega arith) (omega arith) (c .before .before .before .if4 .left) (c .before .if5 .taken))
+    c .node-record .ensures ∙ sym (a-node (s .cells) (s .s .now) (omega arith) (omega arith) (omega arith)
+    (c .before .before .before .if4 .left) (c .before .if5 .taken))
 
 returns-6 : tie.Need-returns-6
 returns-6 c = let s = c .before .before .before .before .before .before .before .before .before .before .before .before .before .args in
-    c .edge-record .ensures ∙ sym (an-edge (s .cells) (s .s .now) (omega arith) (omega arith) (omega arith) (c .before .before .before .before .if4 .left) (c .before .before .if5 .left) (c .before .if6 .taken))
+    c .edge-record .ensures ∙ sym (an-edge (s .cells) (s .s .now) (omega arith) (omega arith) (omega arith)
+    (c .before .before .before .before .if4 .left) (c .before .before .if5 .left) (c .before .if6 .taken))
 
 returns-7 : tie.Need-returns-7
 returns-7 c = let s = c .before .before .before .before .before .before .before .before .before .before .before .before .before .args in
-    c .refused5 .ensures ∙ sym (other-kind (s .cells) (s .s .now) (omega arith) (omega arith) (omega arith) (c .before .before .before .before .if4 .left) (c .before .before .if5 .left) (c .before .if6 .left))
+    c .refused5 .ensures ∙ sym (other-kind (s .cells) (s .s .now) (omega arith) (omega arith) (omega arith)
+    (c .before .before .before .before .if4 .left) (c .before .before .if5 .left) (c .before .if6 .left))
 
 pub record-spec : {M : Type 1} → statement M
 record-spec =

@@ -22,14 +22,24 @@ returns-2 c =
     let f = c .before .before .before .before .ends-at in
     let s = c .before .before .before .before .before .before .before .before .before .args in
     let e : readEnds (s .n) (s .s .now) 9 ≡ good (take (s .n) (f .result .ends)) = f .ensures .0 ∙ simp (c .before .enum-told2 .given .1) in
-    c .poured .ensures ∙ rw (c .before .before .before .before .before .before .node .given .1, ← c .before .before .before .before .before .before .before .before .before .pre .0 .1, e, ← c .before .before .before .before .before .before .before .before .before .pre .0 .0) refl
+    c .poured .ensures ∙ rw (
+      c .before .before .before .before .before .before .node .given .1,
+      ← c .before .before .before .before .before .before .before .before .before .pre .0 .1,
+      e,
+      ← c .before .before .before .before .before .before .before .before .before .pre .0 .0,
+    ) refl
 
 returns-3 : tie.Need-returns-3
 returns-3 c =
     let f = c .before .before .before .before .before .ends-at in
     let s = c .before .before .before .before .before .before .before .before .before .before .args in
-    let e : readEnds (s .n) (s .s .now) 9 ≡ bad (c .before .before .answer .given .0 .0) = f .ensures .0 ∙ simp (c .before .before .answer .given .1) in
-    c .refused2 .ensures ∙ rw (c .before .before .before .before .before .before .before .node .given .1, ← c .before .before .before .before .before .before .before .before .before .before .pre .0 .1, e) refl
+    let e : readEnds (s .n) (s .s .now) 9 ≡ bad (c .before .before .answer .given .0 .0) = f .ensures .0 ∙ simp
+    (c .before .before .answer .given .1) in
+    c .refused2 .ensures ∙ rw (
+      c .before .before .before .before .before .before .before .node .given .1,
+      ← c .before .before .before .before .before .before .before .before .before .before .pre .0 .1,
+      e,
+    ) refl
 
 pub with-node-spec : {M : Type 1} → statement M
 with-node-spec =

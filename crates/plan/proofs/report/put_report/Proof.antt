@@ -7,7 +7,8 @@ use Rattle.plan.proofs.report.put_report.Tie as tie
 
 returns : tie.Need-returns
 unfolding reportBytes
-returns c = copied _ (reportBytes (c .before .before .before .before .before .before .before .args .cells)) _ _ (c .before .before .before .before .before .report .ensures) refl (c .before .before .copy .ensures .1)
+returns c = copied _ (reportBytes (c .before .before .before .before .before .before .before .args .cells)) _ _
+    (c .before .before .before .before .before .report .ensures) refl (c .before .before .copy .ensures .1)
 
 pub put-report-spec : {M : Type 1} → statement M
 put-report-spec =

@@ -13,7 +13,8 @@ returns : tie.Need-returns
 returns c = c .refused .ensures ∙ sym (short-field (c .before .before .before .args .s .now) (omega arith))
 
 returns-2 : tie.Need-returns-2
-returns-2 c = c .refused2 .ensures ∙ sym (short-body (c .before .before .before .before .before .before .before .args .s .now) (omega arith) (omega arith))
+returns-2 c = c .refused2 .ensures ∙ sym (short-body (c .before .before .before .before .before .before .before .args .s .now)
+    (omega arith) (omega arith))
 
 returns-3 : tie.Need-returns-3
 returns-3 c = c .refused3 .ensures ∙ sym (bad-length (c .before .before .before .before .before .before .before .before .before .before .before .args .s .now) (omega arith) (omega arith) (sym (c .before .before .is-ten .ensures) ∙ not-true _ (c .before .if3 .taken)))
@@ -26,17 +27,23 @@ shared-slice-read-is-version c = let s = c .before .before .before .before .befo
 
 returns-4 : tie.Need-returns-4
 returns-4 c = let s = c .before .before .before .before .before .before .before .before .before .before .before .before .before .before .args .s .now in
-    c .refused4 .ensures ∙ sym (bad-version s (omega arith) (omega arith) (sym (c .before .before .before .before .before .is-ten .ensures) ∙ not-false _ (c .before .before .before .before .if3 .left)) (sym (c .before .before .is-version .ensures) ∙ not-true _ (c .before .if4 .taken)))
+    c .refused4 .ensures ∙ sym (bad-version s (omega arith) (omega arith)
+    (sym (c .before .before .before .before .before .is-ten .ensures) ∙ not-false _ (c .before .before .before .before .if3 .left))
+    (sym (c .before .before .is-version .ensures) ∙ not-true _ (c .before .if4 .taken)))
 
 part-letters-end : tie.Need-part-letters-end
 part-letters-end c = let s = c .before .before .before .before .before .before .before .before .before .before .before .before .before .args .s .now in
-    let t : eqb (halfAt s 0) 10 ≡ true = sym (c .before .before .before .before .is-ten .ensures) ∙ not-false _ (c .before .before .before .if3 .left) in
+    let t : eqb (halfAt s 0) 10 ≡ true = sym (c .before .before .before .before .is-ten .ensures) ∙ not-false _
+    (c .before .before .before .if3 .left) in
     let e : halfAt s 0 ≡ 10 = eqb-true _ _ t in
     omega arith
 
 returns-5 : tie.Need-returns-5
 returns-5 c = let s = c .before .before .before .before .before .before .before .before .before .before .before .before .before .before .before .args .s .now in
-    c .letters .ensures ∙ sym (by-letters s (omega arith) (omega arith) (sym (c .before .before .before .before .before .before .is-ten .ensures) ∙ not-false _ (c .before .before .before .before .before .if3 .left)) (sym (c .before .before .before .is-version .ensures) ∙ not-false _ (c .before .before .if4 .left)))
+    c .letters .ensures ∙ sym (by-letters s (omega arith) (omega arith)
+    (sym (c .before .before .before .before .before .before .is-ten .ensures) ∙ not-false _
+    (c .before .before .before .before .before .if3 .left))
+    (sym (c .before .before .before .is-version .ensures) ∙ not-false _ (c .before .before .if4 .left)))
 
 pub read-report-spec : {M : Type 1} → statement M
 read-report-spec =

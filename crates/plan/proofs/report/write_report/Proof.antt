@@ -14,7 +14,8 @@ returns-2 c = let s = c .before .before .before in no-room (now (s .args .buf)) 
 returns-3 : tie.Need-returns-3
 returns-3 c =
     let s = c .before .before .before .before .before .before .before in
-    written (now (s .args .buf)) (s .args .at) (s .args .cells) (c .before .before .put-report .last .0) (omega arith) (c .before .before .put-report .ensures)
+    written (now (s .args .buf)) (s .args .at) (s .args .cells) (c .before .before .put-report .last .0) (omega arith)
+    (c .before .before .put-report .ensures)
 
 pub write-report-spec : {M : Type 1} → statement M
 write-report-spec =

@@ -31,14 +31,18 @@ returns-2 c =
     let g = c .enum-told2 .given in
     let len : length (b .args .t1) ≡ 32 = search needs in
     simp (le-ltb _ _ (c .before .before .before .before .before .before .if1 .left))
-    (g .1 ∙ sym (l .inv .1 ∙ fault-here (b .args .t1) (b .args .count) (l .i) (omega arith) (omega arith) (g .0 .0) (sym (f .ensures) ∙ g .1)))
+    (g .1 ∙ sym (l .inv .1 ∙ fault-here (b .args .t1) (b .args .count) (l .i) (omega arith) (omega arith) (g .0 .0)
+    (sym (f .ensures) ∙ g .1)))
 
 loop-again : tie.Need-loop-again Inv-loop μ-loop
 loop-again c =
     let l = c .before .before .before .before .before .loop in
     let b = c .before .before .before .before .before .before .before in
-    let len : length (b .args .t1) ≡ 32 = search needs in
-    (omega arith, l .inv .1 ∙ fault-next (b .args .t1) (b .args .count) (l .i) (omega arith) (omega arith) (sym (c .before .before .fault .ensures) ∙ c .enum-told .given .1))
+    let len : length (b .args .t1) ≡ 32 = search needs in (
+      omega arith,
+      l .inv .1 ∙ fault-next (b .args .t1) (b .args .count) (l .i) (omega arith) (omega arith)
+          (sym (c .before .before .fault .ensures) ∙ c .enum-told .given .1),
+    )
 
 returns-3 : tie.Need-returns-3 Inv-loop μ-loop
 unfolding checkedOf
@@ -46,7 +50,8 @@ returns-3 c =
     let l = c .before .loop in
     let b = c .before .before .before in
     let len : length (b .args .t1) ≡ 32 = search needs in
-    simp (le-ltb _ _ (c .before .before .if1 .left)) (sym (l .inv .1 ∙ fault-end (b .args .t1) (b .args .count) (l .i) (omega arith) (omega arith)))
+    simp (le-ltb _ _ (c .before .before .if1 .left)) (sym (l .inv .1 ∙ fault-end (b .args .t1) (b .args .count) (l .i) (omega arith)
+    (omega arith)))
 
 pub check-spec : {M : Type 1} → statement M
 check-spec =

@@ -18,7 +18,12 @@ by-quadrant-requires c κs = search needs
 returns : tie.Need-returns
 unfolding orderOf
 returns c =
-    simp (c .by-quadrant .ensures, c .before .turn .ensures, c .before .before .quadrant2 .ensures, c .before .before .before .quadrant .ensures)
+    simp (
+      c .by-quadrant .ensures,
+      c .before .turn .ensures,
+      c .before .before .quadrant2 .ensures,
+      c .before .before .before .quadrant .ensures,
+    )
 
 pub compare-spec : {M : Type 1} → statement M
 compare-spec =

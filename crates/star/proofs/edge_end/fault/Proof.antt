@@ -3,7 +3,12 @@ use Rattle.star.proofs.edge_end.fault.Statement.{statement}
 use Rattle.star.proofs.edge_end.fault.Tie as tie
 
 returns : tie.Need-returns
-returns c = simp (c .pick-checked2 .ensures, c .before .pick-checked .ensures, c .before .before .line-with-side .ensures, c .before .before .before .bad-dir .ensures)
+returns c = simp (
+  c .pick-checked2 .ensures,
+  c .before .pick-checked .ensures,
+  c .before .before .line-with-side .ensures,
+  c .before .before .before .bad-dir .ensures,
+)
 
 pub fault-spec : {M : Type 1} → statement M
 fault-spec =

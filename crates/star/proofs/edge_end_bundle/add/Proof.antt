@@ -3,7 +3,11 @@ use Rattle.star.proofs.edge_end_bundle.add.Statement.{statement}
 use Rattle.star.proofs.edge_end_bundle.add.Tie as tie
 
 returns : tie.Need-returns
-returns c = simp (c .before .mark2 .ensures .0, c .before .before .before .mark .ensures .0, c .before .before .before .before .before .bit-of .ensures .0)
+returns c = simp (
+  c .before .mark2 .ensures .0,
+  c .before .before .before .mark .ensures .0,
+  c .before .before .before .before .before .bit-of .ensures .0,
+)
 
 pub add-spec : {M : Type 1} → statement M
 add-spec =

@@ -31,8 +31,11 @@ loop-again : tie.Need-loop-again Inv-loop μ-loop
 loop-again c =
     let l = c .before .before .before .before .loop in
     let b = c .before .before .before .before .before .before in
-    let len : length (b .args .t1) ≡ 32 = search needs in
-    (omega arith, rw (c .add .ensures, l .inv .1, take-more noEnd (b .args .t1) (l .i) (omega arith)) (sym (tally-snoc (take (l .i) (b .args .t1)) _)))
+    let len : length (b .args .t1) ≡ 32 = search needs in (
+      omega arith,
+      rw (c .add .ensures, l .inv .1, take-more noEnd (b .args .t1) (l .i) (omega arith))
+          (sym (tally-snoc (take (l .i) (b .args .t1)) _)),
+    )
 
 returns : tie.Need-returns Inv-loop μ-loop
 returns c =
@@ -40,7 +43,8 @@ returns c =
     let b = c .before .before .before .before in
     let len : length (b .args .t1) ≡ 32 = search needs in
     let e : b .args .n ≡ l .i = omega arith in
-    rw (c .label-of .ensures, l .inv .1, e) (label-back (take (l .i) (b .args .t1)) (omega (arith, length-take-le (l .i) (b .args .t1) (omega arith))))
+    rw (c .label-of .ensures, l .inv .1, e) (label-back (take (l .i) (b .args .t1))
+    (omega (arith, length-take-le (l .i) (b .args .t1) (omega arith))))
 
 pub join-spec : {M : Type 1} → statement M
 join-spec =

@@ -5,7 +5,15 @@ use Rattle.star.proofs.edge_end_bundle.mark.Statement.{statement}
 use Rattle.star.proofs.edge_end_bundle.mark.Tie as tie
 
 returns : tie.Need-returns
-returns c = (rw (c .if-area .ensures .0, c .before .side-mark2 .ensures .0, c .before .before .side-mark .ensures .0, c .before .before .before .on-mark .ensures .0) refl, omega arith)
+returns c = (
+  rw (
+    c .if-area .ensures .0,
+    c .before .side-mark2 .ensures .0,
+    c .before .before .side-mark .ensures .0,
+    c .before .before .before .on-mark .ensures .0,
+  ) refl,
+  omega arith,
+)
 
 pub mark-spec : {M : Type 1} → statement M
 mark-spec =

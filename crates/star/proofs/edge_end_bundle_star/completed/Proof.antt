@@ -15,7 +15,8 @@ unfolding completedStar
 returns c =
     let b = c .before .before .before .before .before .before in
     let xs = take (b .before .args .n) (b .before .args .ls) in
-    let m : missingLeft xs ≡ true = sym (looked-missing xs (b .look .result) (b .look .ensures)) ∙ rw (← c .before .before .before .misses .ensures, ← c .before .before .misses2 .ensures) (c .before .if1 .taken) in
+    let m : missingLeft xs ≡ true = sym (looked-missing xs (b .look .result) (b .look .ensures)) ∙ rw
+    (← c .before .before .before .misses .ensures, ← c .before .before .misses2 .ensures) (c .before .if1 .taken) in
     c .refused .ensures ∙ rw m refl
 
 returns-2 : tie.Need-returns-2
@@ -25,7 +26,10 @@ returns-2 c =
     let s = b .before .args in
     let xs = take (s .n) (s .ls) in
     let len : length (s .ls) ≡ 32 = search needs in
-    let m : missingLeft xs ≡ false = sym (looked-missing xs (b .look .result) (b .look .ensures)) ∙ rw (← c .before .before .before .before .before .before .before .misses .ensures, ← c .before .before .before .before .before .before .misses2 .ensures) (c .before .before .before .before .before .if1 .left) in
+    let m : missingLeft xs ≡ false = sym (looked-missing xs (b .look .result) (b .look .ensures)) ∙ rw (
+      ← c .before .before .before .before .before .before .before .misses .ensures,
+      ← c .before .before .before .before .before .before .misses2 .ensures,
+    ) (c .before .before .before .before .before .if1 .left) in
     let st = looked-start xs (b .look .result) (b .look .ensures) in
     let w = c .before .before .before .before .walked in
     let we = rw (st .0, st .1) at (w .ensures) in

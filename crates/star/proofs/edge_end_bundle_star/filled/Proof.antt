@@ -13,7 +13,9 @@ use Rattle.star.proofs.edge_end_bundle_star.filled.Statement.{statement
 use Rattle.star.proofs.edge_end_bundle_star.filled.Tie as tie
 
 abbrev Inv-loop : tie.InvT-loop
-Inv-loop n ra rb ls₀ i₀ ls i = (i ≤ n) × (length ls ≡ 32) × (drop i ls ≡ drop i ls₀) × (take i ls ++ scan {S = ℕ} (λ s x. fillLabel ra rb x) (λ s x. s) 0 (drop i (take n ls₀)) ≡ scan {S = ℕ} (λ s x. fillLabel ra rb x) (λ s x. s) 0 (take n ls₀))
+Inv-loop n ra rb ls₀ i₀ ls i = (i ≤ n) × (length ls ≡ 32) × (drop i ls ≡ drop i ls₀) ×
+    (take i ls ++ scan {S = ℕ} (λ s x. fillLabel ra rb x) (λ s x. s) 0 (drop i (take n ls₀)) ≡ scan {S = ℕ} (λ s x. fillLabel ra rb x)
+    (λ s x. s) 0 (take n ls₀))
 
 abbrev μ-loop : tie.MeasureT-loop
 μ-loop n ra rb ls₀ i₀ ls i = n - i
@@ -27,7 +29,8 @@ loop-again c =
       simp length-set (l .inv .1),
       shift-rest blank (l .ls) (b .args .t1) _ (l .i) (l .inv .2),
       rw (c .fill-label .ensures)
-          (scan-step {S = ℕ} blank (λ s x. fillLabel (b .args .ra) (b .args .rb) x) (λ s x. s) (l .ls) (b .args .t1) 0 (l .i) (b .args .n) (omega arith) (omega arith) (omega arith) (l .inv .2) ∙ l .inv .3),
+          (scan-step {S = ℕ} blank (λ s x. fillLabel (b .args .ra) (b .args .rb) x) (λ s x. s) (l .ls) (b .args .t1) 0 (l .i)
+          (b .args .n) (omega arith) (omega arith) (omega arith) (l .inv .2) ∙ l .inv .3),
     )
 
 returns : tie.Need-returns Inv-loop μ-loop
@@ -35,7 +38,12 @@ returns c =
     let l = c .before .loop in
     let b = c .before .before in
     let len : length (b .args .t1) ≡ 32 = search needs in
-    scan-end {S = ℕ} blank (λ s x. fillLabel (b .args .ra) (b .args .rb) x) (λ s x. s) (l .ls) (b .args .t1) 0 (l .i) (b .args .n) (omega arith) (omega arith) (l .inv .2) ∙ rw (l .inv .3, scan-map (fillLabel (b .args .ra) (b .args .rb)) (take (b .args .n) (b .args .t1))) refl
+    scan-end {S = ℕ} blank (λ s x. fillLabel (b .args .ra) (b .args .rb) x) (λ s x. s) (l .ls) (b .args .t1) 0 (l .i) (b .args .n)
+    (omega arith) (omega arith) (l .inv .2) ∙ rw (
+      l .inv .3,
+      scan-map (fillLabel (b .args .ra) (b .args .rb))
+          (take (b .args .n) (b .args .t1)),
+    ) refl
 
 pub filled-spec : {M : Type 1} → statement M
 filled-spec =

@@ -17,7 +17,8 @@ returns-2 c =
     let n = b .args .n in
     let len : length (b .args .t1) ≡ 32 = search needs in
     let e : n ≡ (n - 1) + 1 = omega (arith, c .before .if1 .left) in
-    sym (ap (λ m. lastOf (take m (b .args .t1))) e ∙ rw (take-more blank (b .args .t1) (n - 1) (omega arith)) (last-snoc (take (n - 1) (b .args .t1)) _))
+    sym (ap (λ m. lastOf (take m (b .args .t1))) e ∙ rw (take-more blank (b .args .t1) (n - 1) (omega arith))
+    (last-snoc (take (n - 1) (b .args .t1)) _))
 
 pub last-spec : {M : Type 1} → statement M
 last-spec =

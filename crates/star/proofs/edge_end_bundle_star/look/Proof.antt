@@ -26,7 +26,8 @@ loop-again c =
     let b = c .before .before .before .before in
     let len : length (b .args .t1) ≡ 32 = search needs in (
       omega arith,
-      rw (c .look-label .ensures, l .inv .1, take-more blank (b .args .t1) (l .i) (omega arith)) (sym (looked-snoc (take (l .i) (b .args .t1)) _)),
+      rw (c .look-label .ensures, l .inv .1, take-more blank (b .args .t1) (l .i) (omega arith))
+          (sym (looked-snoc (take (l .i) (b .args .t1)) _)),
     )
 
 returns : tie.Need-returns Inv-loop μ-loop

@@ -3,7 +3,12 @@ use Rattle.star.proofs.edge_end_bundle_star.rest.Statement.{statement}
 use Rattle.star.proofs.edge_end_bundle_star.rest.Tie as tie
 
 returns : tie.Need-returns
-returns c = simp (c .pick .ensures, c .before .or-else .ensures, c .before .before .is-boundary .ensures, c .before .before .before .before .half .ensures)
+returns c = simp (
+  c .pick .ensures,
+  c .before .or-else .ensures,
+  c .before .before .is-boundary .ensures,
+  c .before .before .before .before .half .ensures,
+)
 
 pub rest-spec : {M : Type 1} → statement M
 rest-spec =

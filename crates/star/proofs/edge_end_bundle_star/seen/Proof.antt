@@ -3,7 +3,12 @@ use Rattle.star.proofs.edge_end_bundle_star.seen.Statement.{statement}
 use Rattle.star.proofs.edge_end_bundle_star.seen.Tie as tie
 
 returns : tie.Need-returns
-returns c = simp (c .before .is-none2 .ensures, c .before .before .is-none .ensures, c .before .before .before .or-else .ensures, c .before .before .before .before .pick .ensures)
+returns c = simp (
+  c .before .is-none2 .ensures,
+  c .before .before .is-none .ensures,
+  c .before .before .before .or-else .ensures,
+  c .before .before .before .before .pick .ensures,
+)
 
 pub seen-spec : {M : Type 1} → statement M
 seen-spec =

@@ -3,7 +3,12 @@ use Rattle.star.proofs.edge_end_bundle_star.walk_sides.Statement.{state
 use Rattle.star.proofs.edge_end_bundle_star.walk_sides.Tie as tie
 
 returns : tie.Need-returns
-returns c = simp (c .pick2 .ensures, c .before .pick .ensures, c .before .before .or-else .ensures, c .before .before .before .is-none .ensures)
+returns c = simp (
+  c .pick2 .ensures,
+  c .before .pick .ensures,
+  c .before .before .or-else .ensures,
+  c .before .before .before .is-none .ensures,
+)
 
 pub walk-sides-spec : {M : Type 1} → statement M
 walk-sides-spec =

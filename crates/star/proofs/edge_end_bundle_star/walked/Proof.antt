@@ -11,7 +11,8 @@ use Rattle.star.proofs.edge_end_bundle_star.walked.Statement.{statement
 use Rattle.star.proofs.edge_end_bundle_star.walked.Tie as tie
 
 abbrev Inv-loop : tie.InvT-loop
-Inv-loop n ls₀ c₀ i₀ ls c i = (i ≤ n) × (length ls ≡ 32) × (drop i ls ≡ drop i ls₀) × (take i ls ++ walkBoth c (drop i (take n ls₀)) ≡ walkBoth c₀ (take n ls₀))
+Inv-loop n ls₀ c₀ i₀ ls c i = (i ≤ n) × (length ls ≡ 32) × (drop i ls ≡ drop i ls₀) ×
+    (take i ls ++ walkBoth c (drop i (take n ls₀)) ≡ walkBoth c₀ (take n ls₀))
 
 abbrev μ-loop : tie.MeasureT-loop
 μ-loop n ls₀ c₀ i₀ ls c i = n - i
@@ -25,7 +26,8 @@ loop-again c =
       simp length-set (l .inv .1),
       shift-rest blank (l .ls) (b .args .t1) _ (l .i) (l .inv .2),
       rw (c .before .walk-label .ensures, c .next-label .ensures)
-          (scan-step blank walkLabel nextLabel (l .ls) (b .args .t1) (l .c) (l .i) (b .args .n) (omega arith) (omega arith) (omega arith) (l .inv .2) ∙ l .inv .3),
+          (scan-step blank walkLabel nextLabel (l .ls) (b .args .t1) (l .c) (l .i) (b .args .n) (omega arith) (omega arith)
+          (omega arith) (l .inv .2) ∙ l .inv .3),
     )
 
 returns : tie.Need-returns Inv-loop μ-loop
@@ -33,7 +35,8 @@ returns c =
     let l = c .before .loop in
     let b = c .before .before in
     let len : length (b .args .t1) ≡ 32 = search needs in
-    scan-end blank walkLabel nextLabel (l .ls) (b .args .t1) (l .c) (l .i) (b .args .n) (omega arith) (omega arith) (l .inv .2) ∙ rw (l .inv .3) refl
+    scan-end blank walkLabel nextLabel (l .ls) (b .args .t1) (l .c) (l .i) (b .args .n) (omega arith) (omega arith) (l .inv .2) ∙ rw
+    (l .inv .3) refl
 
 pub walked-spec : {M : Type 1} → statement M
 walked-spec =

@@ -10,7 +10,12 @@ returns c = simp (not-true (c .before .before .before .args .l .area) (c .if1 .t
 
 returns-2 : tie.Need-returns-2
 unfolding pourLabel
-returns-2 c = simp (not-false (c .before .before .before .before .before .args .l .area) (c .before .before .if1 .left), c .pour-side3 .ensures, c .before .pour-side2 .ensures, c .before .before .before .before .pour-side .ensures)
+returns-2 c = simp (
+  not-false (c .before .before .before .before .before .args .l .area) (c .before .before .if1 .left),
+  c .pour-side3 .ensures,
+  c .before .pour-side2 .ensures,
+  c .before .before .before .before .pour-side .ensures,
+)
 
 pub pour-label-spec : {M : Type 1} → statement M
 pour-label-spec =

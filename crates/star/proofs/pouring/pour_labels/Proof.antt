@@ -21,8 +21,11 @@ loop-again : tie.Need-loop-again Inv-loop μ-loop
 loop-again c =
     let l = c .before .before .before .loop in
     let b = c .before .before .before .before in
-    let len : length (b .args .t2) ≡ 32 = search needs in
-    (omega arith, l .inv .1 ∙ pour-next (l .out) (b .args .t2) (b .args .n) (l .i) (omega arith) (omega arith) ∙ rw (c .pour-label .ensures) refl)
+    let len : length (b .args .t2) ≡ 32 = search needs in (
+      omega arith,
+      l .inv .1 ∙ pour-next (l .out) (b .args .t2) (b .args .n) (l .i) (omega arith) (omega arith) ∙ rw
+          (c .pour-label .ensures) refl,
+    )
 
 returns : tie.Need-returns Inv-loop μ-loop
 returns c =

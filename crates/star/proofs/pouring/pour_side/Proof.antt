@@ -9,10 +9,15 @@ returns : tie.Need-returns
 returns c =
     let b = c .before .before .before in
     let e = b .before .before .before .args in
-    sym (held-same (e .m) (sideOf (e .s) (e .l .a)) (sideOf (e .s) (e .l .b)) (e .d) (rw (← b .position .ensures, ← c .before .before .position2 .ensures) (sym (c .before .held .ensures) ∙ c .if1 .taken)))
+    sym (held-same (e .m) (sideOf (e .s) (e .l .a)) (sideOf (e .s) (e .l .b)) (e .d)
+    (rw (← b .position .ensures, ← c .before .before .position2 .ensures) (sym (c .before .held .ensures) ∙ c .if1 .taken)))
 
 returns-2 : tie.Need-returns-2
-returns-2 c = simp (c .set-at-least-if-in-both .ensures, c .before .before .before .position2 .ensures, c .before .before .before .before .position .ensures)
+returns-2 c = simp (
+  c .set-at-least-if-in-both .ensures,
+  c .before .before .before .position2 .ensures,
+  c .before .before .before .before .position .ensures,
+)
 
 pub pour-side-spec : {M : Type 1} → statement M
 pour-side-spec =

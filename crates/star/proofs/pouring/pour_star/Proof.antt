@@ -15,7 +15,8 @@ returns c =
     let b = c .before .before .before .before in
     let s = b .before .args in
     let g = c .before .enum-told2 .given in
-    let e : starOf (take (s .n) (s .ends)) (s .node .«area_a») (s .node .«area_b») .answer ≡ Refused (g .0 .0) = sym (ap (λ x. x .answer) (b .star-of .ensures)) ∙ g .1 in
+    let e : starOf (take (s .n) (s .ends)) (s .node .«area_a») (s .node .«area_b») .answer ≡ Refused (g .0 .0) = sym
+    (ap (λ x. x .answer) (b .star-of .ensures)) ∙ g .1 in
     rw (c .to-cells .ensures, g .1, e) refl
 
 pour-labels-requires : tie.Need-pour-labels-requires
@@ -38,8 +39,16 @@ returns-2 c =
     let es = take (s .n) (s .ends) in
     let pa = s .node .«area_a» in
     let pb = s .node .«area_b» in
-    let e : starOf es pa pb .answer ≡ Completed = sym (ap (λ x. x .answer) (b .star-of .ensures)) ∙ c .before .before .before .enum-told .given .1 in
-    rw (e, c .to-cells2 .ensures, c .before .pour-labels .ensures, c .before .before .pour-node .ensures, b .star-of .ensures, star-labels es pa pb e) refl
+    let e : starOf es pa pb .answer ≡ Completed = sym (ap (λ x. x .answer)
+    (b .star-of .ensures)) ∙ c .before .before .before .enum-told .given .1 in
+    rw (
+      e,
+      c .to-cells2 .ensures,
+      c .before .pour-labels .ensures,
+      c .before .before .pour-node .ensures,
+      b .star-of .ensures,
+      star-labels es pa pb e,
+    ) refl
 
 pub pour-star-spec : {M : Type 1} → statement M
 pour-star-spec =
