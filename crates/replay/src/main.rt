@@ -3,6 +3,7 @@
 // say how it was made and how to make it again.
 mod line;
 mod place_sample;
+mod plan_sample;
 mod sample;
 
 use libc::STDIN_FILENO;
@@ -49,10 +50,30 @@ fn replay_places() -> bool {
     (n == 43) & place_sample::agrees(place_sample::decoded(line))
 }
 
+// The rest of a line that begins with 'N'.
+fn replay_record() -> bool {
+    let mut line = [0u8; 177];
+    let n = io::read_full(STDIN_FILENO, &mut line);
+    (n == 177) & plan_sample::record_agrees(plan_sample::decoded_record(line))
+}
+
+// The rest of a line that begins with 'K'.
+fn replay_star() -> bool {
+    let mut line = [0u8; 191];
+    let n = io::read_full(STDIN_FILENO, &mut line);
+    (n == 191) & plan_sample::star_agrees(plan_sample::decoded_star(line))
+}
+
 // A sample whose kind was read already; a line that is cut short agrees with nothing.
 fn replay_one(kind: u8) -> bool {
     if kind == b'G' {
         return replay_places();
+    }
+    if kind == b'N' {
+        return replay_record();
+    }
+    if kind == b'K' {
+        return replay_star();
     }
     let mut line = [0u8; 73];
     let n = io::read_full(STDIN_FILENO, &mut line);
