@@ -5,3 +5,4 @@ pub mod LawsReportTrip
 pub mod LawsEnds
 pub mod LawsRecord
 pub mod LawsRecordOrder
+pub mod LawsRun

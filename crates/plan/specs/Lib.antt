@@ -4,3 +4,4 @@ pub mod LabelBytes
 pub mod Report
 pub mod EndBytes
 pub mod Record
+pub mod Run

@@ -14,7 +14,7 @@ use Rattle.de9im.specs.declared.«coordinate_position».Position.{Position}
 use Rattle.de9im.specs.declared.«coordinate_position».Position.the-variants.{None, Inside, OnBoundary, Outside}
 use Rattle.de9im.specs.Dimension.{dimNo, larger}
 use Rattle.de9im.specs.Position.{rowOf}
-use Rattle.de9im.specs.Matrix.{Matrix, cellAt, putAt, inBoth, setOf, atLeastOf}
+use Rattle.de9im.specs.Matrix.{Matrix, Shaped, cellAt, putAt, inBoth, setOf, atLeastOf}
 use Rattle.de9im.proofs.LawsDimension.{larger-max}
 use Rattle.star.specs.declared.label.Label.{Label}
 use Rattle.star.specs.Label.{blank}
@@ -33,11 +33,6 @@ module _ (m : Matrix) (ls : List Label) (n i : ℕ) where
   unfolding pourLabels
   pour-end h k = rw (none-left blank ls i n h k) refl
 
--- three rows of three
-pub record Shaped (m : Matrix) : Type 0 where
-  pub three : length m ≡ 3
-  pub rows : (i : ℕ) → i < 3 → length (getD m i []) ≡ 3
-
 -- the number in a cell
 abbrev pub numberIn : Matrix → ℕ → ℕ → ℕ
 numberIn m i j = dimNo (cellAt m i j)
@@ -45,8 +40,8 @@ numberIn m i j = dimNo (cellAt m i j)
 -- a cell after one cell was put
 put-same : (m : Matrix) (i j : ℕ) (d : Dimensions) → Shaped m → i < 3 → j < 3 → cellAt (putAt m i j d) i j ≡ d
 put-same m i j d s h k =
-    let r = s .rows i h in
-    let t = s .three in
+    let r = s .columns i h in
+    let t = s .rows in
     rw (getD-set-same m i (set (getD m i []) j d) [] (omega arith)) (getD-set-same (getD m i []) j d Empty (omega arith))
 
 put-row : (m : Matrix) (i j p q : ℕ) (d : Dimensions) → (p ≡ i → ⊥) → cellAt (putAt m i j d) p q ≡ cellAt m p q
@@ -54,7 +49,7 @@ put-row m i j p q d f = rw (getD-set-other m i p (set (getD m i []) j d) [] f) r
 
 put-column : (m : Matrix) (i j q : ℕ) (d : Dimensions) → Shaped m → i < 3 → (q ≡ j → ⊥) → cellAt (putAt m i j d) i q ≡ cellAt m i q
 put-column m i j q d s h f =
-    let t = s .three in
+    let t = s .rows in
     rw (getD-set-same m i (set (getD m i []) j d) [] (omega arith)) (getD-set-other (getD m i []) j q d Empty f)
 
 raise-at : (m : Matrix) (p q i j : ℕ) (d : Dimensions) → Shaped m → i < 3 → j < 3
@@ -91,17 +86,17 @@ module _ (m : Matrix) (a b : Position) (d : Dimensions) (s : Shaped m) where
       row : (i : ℕ) (v : Dimensions) → i < 3 → (t : Bool) → eqb i (rowOf a) ≡ t → length (getD (putAt m (rowOf a) (rowOf b) v) i []) ≡ 3
       row i v h true e =
           let r : i ≡ rowOf a = eqb-true i (rowOf a) e in
-          let l : rowOf a < length m = omega (arith, s .three) in
+          let l : rowOf a < length m = omega (arith, s .rows) in
           rw (r, getD-set-same m (rowOf a) (set (getD m (rowOf a) []) (rowOf b) v) [] l)
-          (length-set (getD m (rowOf a) []) (rowOf b) v ∙ s .rows (rowOf a) (omega arith))
+          (length-set (getD m (rowOf a) []) (rowOf b) v ∙ s .columns (rowOf a) (omega arith))
       row i v h false e = rw (getD-set-other m (rowOf a) i (set (getD m (rowOf a) []) (rowOf b) v) [] (eqb-false i (rowOf a) e))
-          (s .rows i h)
+          (s .columns i h)
 
       go : (t : Bool) → Shaped (cond t (putAt m (rowOf a) (rowOf b) (larger (cellAt m (rowOf a) (rowOf b)) d)) m)
       go true =
           record {
-            three = length-set m (rowOf a) (set (getD m (rowOf a) []) (rowOf b) (larger (cellAt m (rowOf a) (rowOf b)) d)) ∙ s .three;
-            rows = λ i h. row i (larger (cellAt m (rowOf a) (rowOf b)) d) h (eqb i (rowOf a)) refl;
+            rows = length-set m (rowOf a) (set (getD m (rowOf a) []) (rowOf b) (larger (cellAt m (rowOf a) (rowOf b)) d)) ∙ s .rows;
+            columns = λ i h. row i (larger (cellAt m (rowOf a) (rowOf b)) d) h (eqb i (rowOf a)) refl;
           }
       go false = s
 

@@ -1,0 +1,147 @@
+-- Laws of runs of accepted records: a run has one result, and it leaves every cell at least what it was. Assumes nothing.
+use Prim.Native.Nat.{ℕ, _+_, _*_, _≤_, _<_, min}
+use mathlib.Core.Path.{_≡_, refl, sym, ap, subst, _∙_}
+use mathlib.Core.Bool.{Bool, true, false, cond, not}
+use mathlib.Core.List.{List, [], _∷_}
+use native.Mathlib.Omega.{arith}
+use lib.Dec.{eqb, ltb}
+use lib.ListN.{length, getD}
+use Rattle.de9im.specs.declared.refusal.Refusal.{Refusal}
+use Rattle.de9im.specs.declared.refusal.Refusal.the-variants.{Short, Version, Kind, Length, Ends, PositionCode, MissingLeft}
+use Rattle.de9im.specs.Cells.{cellsOf, matrixOf}
+use Rattle.de9im.specs.Dimension.{dimNo}
+use Rattle.de9im.specs.Matrix.{Matrix, Shaped, cellAt}
+use Rattle.de9im.specs.declared.dimensions.Dimensions.the-variants.{ZeroDimensional}
+use Rattle.de9im.proofs.LawsForms.{cells-back, matrix-shaped, nine-at}
+use Rattle.de9im.proofs.LawsPatterns.{cells-at}
+use Rattle.star.specs.declared.label.Label.{Label}
+use Rattle.star.specs.Completing.{missingLeft, completedOf}
+use Rattle.star.specs.Pouring.{pourNode, pourLabel, pourLabels}
+use Rattle.star.specs.Star.{joinedOf}
+use Rattle.star.proofs.LawsPouring.{raise-cell, raise-shape, label-cell, labels-raise}
+use Rattle.plan.specs.declared.Answer.the-variants.{Used, Refused}
+use Rattle.plan.specs.declared.«label_bytes».LabelRead.{LabelRead}
+use Rattle.plan.specs.declared.«label_bytes».LabelRead.the-variants as L
+use Rattle.plan.specs.declared.record.Node.{Node}
+use Rattle.plan.specs.declared.record.NodeRead.{NodeRead}
+use Rattle.plan.specs.declared.record.NodeRead.the-variants as N
+use Rattle.plan.specs.declared.record.RecordAnswer.{RecordAnswer}
+use Rattle.plan.specs.EndBytes.{good, bad, readEnds}
+use Rattle.plan.specs.EndBytes.{Ends as ReadEnds}
+use Rattle.plan.specs.LabelBytes.{labelAt}
+use Rattle.plan.specs.Record.{refusedAs, acceptedAs, unless, edgeWith, edgeOf, nodeAt, withEnds, withNode, nodeOf, byKind, recordOf}
+use Rattle.plan.specs.Run.{Accepts, Run, none, then}
+use Rattle.plan.specs.Words.{byteAt, halfAt}
+
+cells-of-answer : {ns s ms : List ℕ} → Accepts ns s ms → recordOf ns s .cells ≡ ms
+cells-of-answer a = ap (λ (x : RecordAnswer). x .cells) (a .answer)
+
+-- a run has one result
+pub one-result : {ns os ps : List ℕ} {rs : List (List ℕ)} → Run ns rs os → Run ns rs ps → os ≡ ps
+one-result none none = refl
+one-result {os = os} {rs = s ∷ rs} (then {ms = ms} a r) (then {ms = ms′} b q) =
+    let e : ms ≡ ms′ = sym (cells-of-answer a) ∙ cells-of-answer b in
+    one-result (subst (λ (l : List ℕ). Run l rs os) e r) q
+
+-- every cell is at least what it was; a number above 3 was read as 3
+abbrev pub Rises : List ℕ → List ℕ → Type 0
+Rises ns ms = (i j : ℕ) → i < 3 → j < 3 → min (getD ns (3 * i + j) 0) 3 ≤ getD ms (3 * i + j) 0
+
+-- the matrix that nine numbers stand for has their cells, up to 3
+given-cell : (ns : List ℕ) (i j : ℕ) → i < 3 → j < 3 → dimNo (cellAt (matrixOf ns) i j) ≡ min (getD ns (3 * i + j) 0) 3
+given-cell ns i j h k =
+    sym (cells-at (matrixOf ns) i j h k) ∙ ap (λ (l : List ℕ). getD l (3 * i + j) 0) (cells-back ns) ∙
+    nine-at (λ n. min (getD ns n 0) 3) (3 * i + j) (omega arith)
+
+-- pouring into it rises
+label-rises : (ns : List ℕ) (l : Label) → Rises ns (cellsOf (pourLabel (matrixOf ns) l))
+label-rises ns l i j h k =
+    omega (
+      arith,
+      given-cell ns i j h k,
+      cells-at (pourLabel (matrixOf ns) l) i j h k,
+      label-cell l (matrixOf ns) (matrix-shaped ns) i j h k,
+    )
+
+node-rises : (ns : List ℕ) (n : Node) (ls : List Label) → Rises ns (cellsOf (pourLabels (pourNode (matrixOf ns) (n .a) (n .b)) ls))
+unfolding pourNode
+node-rises ns n ls i j h k =
+    let m = pourNode (matrixOf ns) (n .a) (n .b) in
+    let s = matrix-shaped ns in
+    omega (
+      arith,
+      given-cell ns i j h k,
+      cells-at (pourLabels m ls) i j h k,
+      raise-cell (matrixOf ns) (n .a) (n .b) ZeroDimensional s i j h k,
+      labels-raise m ls (raise-shape (matrixOf ns) (n .a) (n .b) ZeroDimensional s) i j h k,
+    )
+
+-- an answer that was accepted
+abbrev usedAs : ℕ → List ℕ → RecordAnswer
+usedAs u ms = record { answer = Used u; cells = ms }
+
+not-accepted : {A : Type 0} (r : Refusal) (ns ms : List ℕ) (u : ℕ) → refusedAs r ns ≡ usedAs u ms → A
+not-accepted r ns ms u e =
+    let f : Refused r ≡ Used u = ap (λ (x : RecordAnswer). x .answer) e in
+    absurd (let z : _≡_ {A = ℕ} 0 1 = cc in omega arith)
+
+-- it passed a check
+passed : (t : Bool) (r : Refusal) (ns : List ℕ) (rest : RecordAnswer) (u : ℕ) (ms : List ℕ) → unless t r ns rest ≡ usedAs u ms → rest ≡ usedAs u ms
+passed true r ns rest u ms e = not-accepted r ns ms u e
+passed false r ns rest u ms e = e
+
+poured-as : (ns ms : List ℕ) (m : Matrix) (u v : ℕ) → acceptedAs v m ≡ usedAs u ms → Rises ns (cellsOf m) → Rises ns ms
+poured-as ns ms m u v e r = subst (λ (l : List ℕ). Rises ns l) (ap (λ (x : RecordAnswer). x .cells) e) r
+
+edge-rises : (ns ms : List ℕ) (u : ℕ) (l : LabelRead) → edgeWith ns l ≡ usedAs u ms → Rises ns ms
+edge-rises ns ms u (L.Is l) e = poured-as ns ms (pourLabel (matrixOf ns) l) u 11 e (label-rises ns l)
+edge-rises ns ms u (L.Bad r) e = not-accepted r ns ms u e
+
+ends-rise : (ns ms : List ℕ) (u v : ℕ) (n : Node) (es : ReadEnds) → withEnds ns v n es ≡ usedAs u ms → Rises ns ms
+ends-rise ns ms u v n (bad r) e = not-accepted r ns ms u e
+ends-rise ns ms u v n (good es) e =
+    let ls = completedOf (n .p) (n .q) (joinedOf es) in
+    let m = pourLabels (pourNode (matrixOf ns) (n .a) (n .b)) ls in
+    poured-as ns ms m u v (passed (missingLeft (joinedOf es)) MissingLeft ns (acceptedAs v m) u ms e) (node-rises ns n ls)
+
+body-rises : (ns ms s : List ℕ) (u : ℕ) (n : NodeRead) → withNode ns s n ≡ usedAs u ms → Rises ns ms
+body-rises ns ms s u N.Bad e = not-accepted PositionCode ns ms u e
+body-rises ns ms s u (N.Is n) e = ends-rise ns ms u (2 + halfAt s 0) n (readEnds (byteAt s 8) s 9) e
+
+node-record-rises : (ns ms s : List ℕ) (u : ℕ) → nodeOf ns s ≡ usedAs u ms → Rises ns ms
+unfolding nodeOf
+node-record-rises ns ms s u e =
+    let body = withNode ns s (nodeAt s) in
+    let long = unless (not (eqb (halfAt s 0) (7 + 15 * byteAt s 8))) Length ns body in
+    let many = unless (ltb 32 (byteAt s 8)) Ends ns long in
+    body-rises ns ms s u (nodeAt s)
+    (passed (not (eqb (halfAt s 0) (7 + 15 * byteAt s 8))) Length ns body u ms
+    (passed (ltb 32 (byteAt s 8)) Ends ns long u ms (passed (ltb (halfAt s 0) 7) Length ns many u ms e)))
+
+edge-record-rises : (ns ms s : List ℕ) (u : ℕ) → edgeOf ns s ≡ usedAs u ms → Rises ns ms
+unfolding edgeOf
+edge-record-rises ns ms s u e = edge-rises ns ms u (labelAt s 4) (passed (not (eqb (halfAt s 0) 9)) Length ns (edgeWith ns (labelAt s 4)) u ms e)
+
+kind-rises : (ns ms s : List ℕ) (u : ℕ) (t v : Bool) → cond t (nodeOf ns s) (cond v (edgeOf ns s) (refusedAs Kind ns)) ≡ usedAs u ms → Rises ns ms
+kind-rises ns ms s u true v e = node-record-rises ns ms s u e
+kind-rises ns ms s u false true e = edge-record-rises ns ms s u e
+kind-rises ns ms s u false false e = not-accepted Kind ns ms u e
+
+-- an accepted record leaves every cell at least what it was
+pub record-rises : (ns s ms : List ℕ) → Accepts ns s ms → Rises ns ms
+unfolding recordOf
+record-rises ns s ms a =
+    let u = a .used in
+    let kind = byKind ns s in
+    let version = unless (not (eqb (byteAt s 2) 1)) Version ns kind in
+    let short = unless (ltb (halfAt s 0) 2) Length ns version in
+    let body = unless (ltb (length s) (2 + halfAt s 0)) Short ns short in
+    kind-rises ns ms s u (eqb (byteAt s 3) 1) (eqb (byteAt s 3) 2)
+    (passed (not (eqb (byteAt s 2) 1)) Version ns kind u ms
+    (passed (ltb (halfAt s 0) 2) Length ns version u ms
+    (passed (ltb (length s) (2 + halfAt s 0)) Short ns short u ms (passed (ltb (length s) 2) Short ns body u ms (a .answer)))))
+
+-- and so does a run
+pub run-rises : {ns os : List ℕ} {rs : List (List ℕ)} → Run ns rs os → Rises ns os
+run-rises {ns = ns} none i j h k = omega arith
+run-rises {ns = ns} (then {s = s} {ms = ms} a r) i j h k = omega (arith, record-rises ns s ms a i j h k, run-rises r i j h k)
