@@ -5,4 +5,5 @@ pub mod LawsReportTrip
 pub mod LawsEnds
 pub mod LawsRecord
 pub mod LawsRecordOrder
+pub mod LawsAfter
 pub mod LawsRun
