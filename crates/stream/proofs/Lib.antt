@@ -1,0 +1,6 @@
+-- Facts about the definitions of specs/, each stated once.
+pub mod LawsLists
+pub mod LawsDrain
+pub mod LawsInput
+pub mod LawsLines
+pub mod LawsReading

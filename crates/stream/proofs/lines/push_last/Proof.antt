@@ -1,0 +1,34 @@
+use borrow.Author.Needs.{needs}
+use native.Mathlib.Omega.{arith}
+use mathlib.Core.Path.{_≡_, refl, sym, ap, _∙_}
+use lib.ListN.{take}
+use denote.Ref.{now}
+use Rattle.de9im.specs.declared.predicates.Predicate.the-variants.{Covers}
+use Rattle.stream.specs.Lines.{lineOf}
+use Rattle.stream.proofs.LawsLines.{five}
+use Rattle.stream.proofs.lines.push_last.Statement.{statement}
+use Rattle.stream.proofs.lines.push_last.Tie as tie
+
+returns : tie.Need-returns
+returns c =
+    let s = c .before .before .before .before .before .before .before .before .before .before .before .before .before .before .before .before .before .before .before .before .before .args in (
+      omega arith,
+      five (take (s .at) (now (s .out))) _ _ _ _ _ (lineOf Covers (s .m)) _ _ _ _
+          (c .before .before .before .before .before .before .before .before .before .before .before .before .before .before .before .before .before .before .push-line .ensures .1)
+          (c .before .before .before .before .before .before .before .before .before .before .before .before .before .before .push-line2 .ensures .1)
+          (c .before .before .before .before .before .before .before .before .before .before .push-line3 .ensures .1)
+          (c .before .before .before .before .before .before .push-line4 .ensures .1)
+          (c .before .before .push-line5 .ensures .1),
+    )
+
+pub push-last-spec : {M : Type 1} → statement M
+push-last-spec =
+    tie.close
+    (tie.spec
+    (λ c κs. search needs)
+    (λ c κs. search needs)
+    (λ c κs. search needs)
+    (λ c κs. search needs)
+    (λ c κs. search needs)
+    (λ c. search needs)
+    returns)

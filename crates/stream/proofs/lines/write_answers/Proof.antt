@@ -1,0 +1,38 @@
+use borrow.Author.Needs.{needs}
+use native.Mathlib.Omega.{arith}
+use mathlib.Core.Path.{_≡_, refl, sym, ap, _∙_}
+use denote.Ref.{now}
+use mathlib.Core.List.{append-assoc, append-nil}
+use Rattle.stream.specs.Lines.{answersOf}
+use Rattle.stream.proofs.lines.write_answers.Statement.{statement}
+use Rattle.stream.proofs.lines.write_answers.Tie as tie
+
+returns : tie.Need-returns
+unfolding answersOf
+returns c = (
+  omega arith,
+  simp (
+    c .before .before .push-last .ensures .1,
+    c .before .before .before .before .before .before .push-first .ensures .1,
+    c .before .before .before .before .before .before .before .before .before .before .push2 .ensures .1,
+    c .before .before .before .before .before .before .before .before .before .before .before .before .before .before .before .push .ensures .1,
+    c .before .before .before .before .before .before .before .before .before .before .before .before .before .before .before .before .before .before .to-text .ensures,
+    c .before .before .before .before .before .before .before .before .before .before .before .before .before .before .before .before .before .before .before .from-cells .ensures,
+    append-assoc,
+  ),
+)
+
+pub write-answers-spec : {M : Type 1} → statement M
+write-answers-spec =
+    tie.close
+    (tie.spec
+    (λ c κs. search needs)
+    (λ c κs. search needs)
+    (λ c. search needs)
+    (λ c κs. search needs)
+    (λ c. search needs)
+    (λ c κs. search needs)
+    (λ c κs. search needs)
+    (λ c κs. search needs)
+    (λ c. search needs)
+    returns)
