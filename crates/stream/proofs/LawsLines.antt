@@ -68,11 +68,13 @@ module _ (p : Predicate) (n : ℕ) (out rest : List ℕ) (e : n ≡ length (name
   pub name-room : (at : ℕ) → at + length (take n out) ≤ at + 17
   name-room at = omega (arith, name-short p, name-length)
 
-pub line-yes : (p : Predicate) (m : Matrix) (before : List ℕ) → holds p m ≡ true → (before ++ nameOf p) ++ bytes " yes\n" ≡ before ++ lineOf p m
+pub line-yes : (p : Predicate) (m : Matrix) (before : List ℕ) → holds p m ≡ true
+    → (before ++ nameOf p) ++ bytes " yes\n" ≡ before ++ lineOf p m
 unfolding lineOf
 line-yes p m before e = rw e (append-assoc before (nameOf p) (bytes " yes\n"))
 
-pub line-no : (p : Predicate) (m : Matrix) (before : List ℕ) → holds p m ≡ false → (before ++ nameOf p) ++ bytes " no\n" ≡ before ++ lineOf p m
+pub line-no : (p : Predicate) (m : Matrix) (before : List ℕ) → holds p m ≡ false
+    → (before ++ nameOf p) ++ bytes " no\n" ≡ before ++ lineOf p m
 unfolding lineOf
 line-no p m before e = rw e (append-assoc before (nameOf p) (bytes " no\n"))
 
@@ -89,18 +91,23 @@ few-places n k h f = by (leb k 20) refl
         absurd (omega arith)
 
 -- words behind one another
-pub five : (o0 o1 o2 o3 o4 o5 l1 l2 l3 l4 l5 : List ℕ) → o1 ≡ o0 ++ l1 → o2 ≡ o1 ++ l2 → o3 ≡ o2 ++ l3 → o4 ≡ o3 ++ l4 → o5 ≡ o4 ++ l5
+after : {x y : List ℕ} (l : List ℕ) → x ≡ y → x ++ l ≡ y ++ l
+after l e = ap (λ (z : List ℕ). z ++ l) e
+
+pub five : (o0 o1 o2 o3 o4 o5 l1 l2 l3 l4 l5 : List ℕ) → o1 ≡ o0 ++ l1 → o2 ≡ o1 ++ l2 → o3 ≡ o2 ++ l3
+    → o4 ≡ o3 ++ l4 → o5 ≡ o4 ++ l5
     → o5 ≡ o0 ++ (l1 ++ (l2 ++ (l3 ++ (l4 ++ (l5 ++ [])))))
 five o0 o1 o2 o3 o4 o5 l1 l2 l3 l4 l5 e1 e2 e3 e4 e5 =
-    (e5 ∙ ap (λ (l : List ℕ). l ++ l5) (e4 ∙ ap (λ (l : List ℕ). l ++ l4) (e3 ∙ ap (λ (l : List ℕ). l ++ l3) (e2 ∙ ap (λ (l : List ℕ). l ++ l2) e1)))) ∙ simp (append-assoc, append-nil)
+    e5 ∙ after l5 (e4 ∙ after l4 (e3 ∙ after l3 (e2 ∙ after l2 e1))) ∙ simp (append-assoc, append-nil)
 
-pub six : (o0 o1 o2 o3 o4 o5 o6 l1 l2 l3 l4 l5 l6 : List ℕ) → o1 ≡ o0 ++ l1 → o2 ≡ o1 ++ l2 → o3 ≡ o2 ++ l3 → o4 ≡ o3 ++ l4 → o5 ≡ o4 ++ l5 → o6 ≡ o5 ++ l6
+pub six : (o0 o1 o2 o3 o4 o5 o6 l1 l2 l3 l4 l5 l6 : List ℕ) → o1 ≡ o0 ++ l1 → o2 ≡ o1 ++ l2 → o3 ≡ o2 ++ l3
+    → o4 ≡ o3 ++ l4 → o5 ≡ o4 ++ l5 → o6 ≡ o5 ++ l6
     → o6 ≡ o0 ++ (l1 ++ (l2 ++ (l3 ++ (l4 ++ (l5 ++ (l6 ++ []))))))
 six o0 o1 o2 o3 o4 o5 o6 l1 l2 l3 l4 l5 l6 e1 e2 e3 e4 e5 e6 =
-    (e6 ∙ ap (λ (l : List ℕ). l ++ l6) (e5 ∙ ap (λ (l : List ℕ). l ++ l5) (e4 ∙ ap (λ (l : List ℕ). l ++ l4) (e3 ∙ ap (λ (l : List ℕ). l ++ l3) (e2 ∙ ap (λ (l : List ℕ). l ++ l2) e1))))) ∙ simp (append-assoc, append-nil)
+    e6 ∙ after l6 (e5 ∙ after l5 (e4 ∙ after l4 (e3 ∙ after l3 (e2 ∙ after l2 e1)))) ∙ simp (append-assoc, append-nil)
 
-pub refused-line : (r : Refusal) (off k : ℕ) (a b c d e : List ℕ) → k ≡ numberOf r → a ≡ bytes "refused " → Decimal k a b → c ≡ b ++ bytes " at "
-    → Decimal off c d → e ≡ d ++ bytes "\n" → RefusedLine r off e
+pub refused-line : (r : Refusal) (off k : ℕ) (a b c d e : List ℕ) → k ≡ numberOf r → a ≡ bytes "refused " → Decimal k a b
+    → c ≡ b ++ bytes " at " → Decimal off c d → e ≡ d ++ bytes "\n" → RefusedLine r off e
 refused-line r off k a b c d e f g x h y i =
     record {
       named = b;
@@ -114,7 +121,8 @@ pub prints-answers : (o : Outcome) (line : List ℕ) → o .told ≡ T.Accepted 
 prints-answers o line e f =
     rw f (subst (λ (t : Told). Prints (record { told = t; cells = o .cells }) (answersOf (o .cells))) (sym e) answers)
 
-pub prints-refused : (o : Outcome) (line : List ℕ) (r : Refusal) (off : ℕ) → o .told ≡ T.Refused r off → RefusedLine r off line → Prints o line
+pub prints-refused : (o : Outcome) (line : List ℕ) (r : Refusal) (off : ℕ) → o .told ≡ T.Refused r off → RefusedLine r off line
+    → Prints o line
 prints-refused o line r off e f = subst (λ (t : Told). Prints (record { told = t; cells = o .cells }) line) (sym e) (refused f)
 
 pub prints-unreadable : (o : Outcome) (line : List ℕ) → o .told ≡ T.Unreadable → line ≡ bytes "unreadable\n" → Prints o line

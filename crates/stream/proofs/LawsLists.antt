@@ -7,14 +7,30 @@ use native.Mathlib.Numerals.{add-one}
 use native.Mathlib.Omega.{arith}
 use borrow.Rule.Slice.PartMut.{midOf, postOf, putMid, post-is}
 use lib.ListN.{length, take, drop, getD, set, length-take, length-drop, length-append}
-use lib.Seq.{take-all, take-nil, drop-nil, take-length, drop-length, drop-drop, take-add, take-suc, take-suc-set, drop-set-lt, getD-drop, take-append-seam, take-at, length-take-le}
+use lib.Seq.{
+  take-all,
+  take-nil,
+  drop-nil,
+  take-length,
+  drop-length,
+  drop-drop,
+  take-add,
+  take-suc,
+  take-suc-set,
+  drop-set-lt,
+  getD-drop,
+  take-append-seam,
+  take-at,
+  length-take-le,
+}
 
 -- a part, cut from the front
 pub drop-take : (a h : ℕ) (l : List ℕ) → drop a (take h l) ≡ take (h - a) (drop a l)
 drop-take zero h l = ap (λ (k : ℕ). take k l) (let e : h ≡ h - 0 = omega arith in e)
 drop-take (suc a) zero l = drop-nil (suc a) ∙ ap (λ (k : ℕ). take k (drop (suc a) l)) (let e : 0 ≡ 0 - suc a = omega arith in e)
 drop-take (suc a) (suc h) [] = drop-nil (suc a) ∙ sym (take-nil (suc h - suc a))
-drop-take (suc a) (suc h) (x ∷ xs) = drop-take a h xs ∙ ap (λ (k : ℕ). take k (drop a xs)) (let e : h - a ≡ suc h - suc a = omega arith in e)
+drop-take (suc a) (suc h) (x ∷ xs) =
+    drop-take a h xs ∙ ap (λ (k : ℕ). take k (drop a xs)) (let e : h - a ≡ suc h - suc a = omega arith in e)
 
 -- a part that reaches to the end
 pub to-end : (s : List ℕ) (at : ℕ) → take (length s - at) (drop at s) ≡ drop at s

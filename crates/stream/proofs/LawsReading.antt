@@ -108,7 +108,8 @@ module _ (b : List ℕ) (t : Round) (b1 : List ℕ) (u : Round) (standing : Stan
 pub record Since (buf : List ℕ) (t : Round) : Type 0 where
   pub standing : Standing buf t
   pub input : List ℕ
-  pub answers : (more : List ℕ) (o : Outcome) → Answers (t .cells) (t .off) (restOf buf t ++ more) o → Answers startCells 0 (input ++ more) o
+  pub answers : (more : List ℕ) (o : Outcome) → Answers (t .cells) (t .off) (restOf buf t ++ more) o
+      → Answers startCells 0 (input ++ more) o
 
 module _ (b : List ℕ) (t : Round) (c : List ℕ) (r : Round) (since : Since b t) (turned : Turned b t c r) where
   goes-on : r .next ≡ N.More → Goes b t c r

@@ -4,3 +4,4 @@ pub mod LawsDrain
 pub mod LawsInput
 pub mod LawsLines
 pub mod LawsReading
+pub mod LawsRun

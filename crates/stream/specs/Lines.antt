@@ -67,5 +67,6 @@ pub record RefusedLine (r : Refusal) (off : ℕ) (line : List ℕ) : Type 0 wher
 -- what is printed
 pub data Prints : Outcome → List ℕ → Type 0 where
   answers : {ns : List ℕ} → Prints (record { told = T.Accepted; cells = ns }) (answersOf ns)
-  refused : {r : Refusal} {off : ℕ} {ns line : List ℕ} → RefusedLine r off line → Prints (record { told = T.Refused r off; cells = ns }) line
+  refused : {r : Refusal} {off : ℕ} {ns line : List ℕ} → RefusedLine r off line
+      → Prints (record { told = T.Refused r off; cells = ns }) line
   unreadable : {ns : List ℕ} → Prints (record { told = T.Unreadable; cells = ns }) (bytes "unreadable\n")

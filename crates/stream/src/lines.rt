@@ -20,7 +20,8 @@ ghost use Rattle.stream.specs.Lines.{lineOf, linesOf, firstSix, lastFive
 // Writes a word behind the first `at` bytes, and answers how many there are then.
 fn push(out: &mut [u8], at: usize, word: &[u8]) -> usize
     requires { ⌜ at + length (now word) ≤ length (now out) ⌝ }
-    ensures { λ r. ⌜ (r ≡ at + length (now (word .entry))) × (take r (now (out .exit)) ≡ take at (now (out .entry)) ++ now (word .entry)) ⌝ }
+    ensures { λ r. ⌜ r ≡ at + length (now (word .entry)) ⌝ }
+    ensures { λ r. ⌜ take r (now (out .exit)) ≡ take at (now (out .entry)) ++ now (word .entry) ⌝ }
 {
     at + bytes::copy(word, &mut out[at..])
 }

@@ -11,15 +11,21 @@ use Rattle.stream.proofs.lines.push_first.Tie as tie
 
 returns : tie.Need-returns
 returns c =
-    let s = c .before .before .before .before .before .before .before .before .before .before .before .before .before .before .before .before .before .before .before .before .before .before .before .before .before .args in (
+    let k6 = c .before .before in
+    let k5 = k6 .before .before .before .before in
+    let k4 = k5 .before .before .before .before in
+    let k3 = k4 .before .before .before .before in
+    let k2 = k3 .before .before .before .before in
+    let k1 = k2 .before .before .before .before in
+    let s = k1 .before .before .before .args in (
       omega arith,
       six (take (s .at) (now (s .out))) _ _ _ _ _ _ (lineOf Disjoint (s .m)) _ _ _ _ _
-          (c .before .before .before .before .before .before .before .before .before .before .before .before .before .before .before .before .before .before .before .before .before .before .push-line .ensures .1)
-          (c .before .before .before .before .before .before .before .before .before .before .before .before .before .before .before .before .before .before .push-line2 .ensures .1)
-          (c .before .before .before .before .before .before .before .before .before .before .before .before .before .before .push-line3 .ensures .1)
-          (c .before .before .before .before .before .before .before .before .before .before .push-line4 .ensures .1)
-          (c .before .before .before .before .before .before .push-line5 .ensures .1)
-          (c .before .before .push-line6 .ensures .1),
+          (k1 .push-line .ensures .1)
+          (k2 .push-line2 .ensures .1)
+          (k3 .push-line3 .ensures .1)
+          (k4 .push-line4 .ensures .1)
+          (k5 .push-line5 .ensures .1)
+          (k6 .push-line6 .ensures .1),
     )
 
 pub push-first-spec : {M : Type 1} → statement M

@@ -11,10 +11,14 @@ use Rattle.stream.proofs.lines.push_line.Statement.{statement}
 use Rattle.stream.proofs.lines.push_line.Tie as tie
 
 array-share-prefix-name : tie.Need-array-share-prefix-name
-array-share-prefix-name c = let w = c .before .write-name .ensures in name-in (c .before .before .before .before .args .p) _ _ _ (w .0) (w .1)
+array-share-prefix-name c =
+    let w = c .before .write-name .ensures in
+    name-in (c .before .before .before .before .args .p) _ _ _ (w .0) (w .1)
 
 slice-aggregate-push : tie.Need-slice-aggregate-push
-slice-aggregate-push c = let w = c .before .before .write-name .ensures in name-length (c .before .before .before .before .before .args .p) _ _ _ (w .0) (w .1)
+slice-aggregate-push c =
+    let w = c .before .before .write-name .ensures in
+    name-length (c .before .before .before .before .before .args .p) _ _ _ (w .0) (w .1)
 
 push-requires : tie.Need-push-requires
 push-requires c κs =
@@ -42,29 +46,35 @@ push-requires-3 c κs =
 returns : tie.Need-returns
 returns c =
     let a = c .before .before .push2 .ensures in
-    let k = c .before .before .before .before .before .before .before .before .before .push .ensures in
-    let w = c .before .before .before .before .before .before .before .before .before .before .before .before .write-name .ensures in
-    let s = c .before .before .before .before .before .before .before .before .before .before .before .before .before .before .before .args in
+    let f = c .before .before .before .before .before in
+    let g = f .before .before .before .before in
+    let k = g .push .ensures in
+    let w = g .before .before .before .write-name .ensures in
+    let s = g .before .before .before .before .before .before .args in
+    let before = take (s .at) (now (s .out)) in
     let n = name-taken (s .p) _ _ _ (w .0) (w .1) in
     let e = name-end (s .p) _ _ _ (w .0) (w .1) (s .at) _ (k .0) in
-    let y = sym (c .before .before .before .before .before .before .ask .ensures) ∙ c .before .before .before .before .before .if1 .taken in (
+    let y = sym (f .before .ask .ensures) ∙ f .if1 .taken in (
       omega (arith, e, a .0),
-      a .1 ∙ ap (λ (l : List ℕ). l ++ bytes " yes\n") (k .1 ∙ ap (λ (l : List ℕ). take (s .at) (now (s .out)) ++ l) n) ∙
-          line-yes (s .p) (s .m) (take (s .at) (now (s .out))) y,
+      a .1 ∙ ap (λ (l : List ℕ). l ++ bytes " yes\n") (k .1 ∙ ap (λ (l : List ℕ). before ++ l) n) ∙
+          line-yes (s .p) (s .m) before y,
     )
 
 returns-2 : tie.Need-returns-2
 returns-2 c =
     let a = c .before .before .push3 .ensures in
-    let k = c .before .before .before .before .before .before .before .before .before .push .ensures in
-    let w = c .before .before .before .before .before .before .before .before .before .before .before .before .write-name .ensures in
-    let s = c .before .before .before .before .before .before .before .before .before .before .before .before .before .before .before .args in
+    let f = c .before .before .before .before .before in
+    let g = f .before .before .before .before in
+    let k = g .push .ensures in
+    let w = g .before .before .before .write-name .ensures in
+    let s = g .before .before .before .before .before .before .args in
+    let before = take (s .at) (now (s .out)) in
     let n = name-taken (s .p) _ _ _ (w .0) (w .1) in
     let e = name-end (s .p) _ _ _ (w .0) (w .1) (s .at) _ (k .0) in
-    let y = sym (c .before .before .before .before .before .before .ask .ensures) ∙ c .before .before .before .before .before .if1 .left in (
+    let y = sym (f .before .ask .ensures) ∙ f .if1 .left in (
       omega (arith, e, a .0),
-      a .1 ∙ ap (λ (l : List ℕ). l ++ bytes " no\n") (k .1 ∙ ap (λ (l : List ℕ). take (s .at) (now (s .out)) ++ l) n) ∙
-          line-no (s .p) (s .m) (take (s .at) (now (s .out))) y,
+      a .1 ∙ ap (λ (l : List ℕ). l ++ bytes " no\n") (k .1 ∙ ap (λ (l : List ℕ). before ++ l) n) ∙
+          line-no (s .p) (s .m) before y,
     )
 
 pub push-line-spec : {M : Type 1} → statement M

@@ -9,18 +9,23 @@ use Rattle.stream.proofs.lines.write_answers.Tie as tie
 
 returns : tie.Need-returns
 unfolding answersOf
-returns c = (
-  omega arith,
-  simp (
-    c .before .before .push-last .ensures .1,
-    c .before .before .before .before .before .before .push-first .ensures .1,
-    c .before .before .before .before .before .before .before .before .before .before .push2 .ensures .1,
-    c .before .before .before .before .before .before .before .before .before .before .before .before .before .before .before .push .ensures .1,
-    c .before .before .before .before .before .before .before .before .before .before .before .before .before .before .before .before .before .before .to-text .ensures,
-    c .before .before .before .before .before .before .before .before .before .before .before .before .before .before .before .before .before .before .before .from-cells .ensures,
-    append-assoc,
-  ),
-)
+returns c =
+    let d = c .before .before in
+    let f = d .before .before .before .before in
+    let b = f .before .before .before .before in
+    let a = b .before .before .before .before .before in
+    let t = a .before .before .before in (
+      omega arith,
+      simp (
+        d .push-last .ensures .1,
+        f .push-first .ensures .1,
+        b .push2 .ensures .1,
+        a .push .ensures .1,
+        t .to-text .ensures,
+        t .before .from-cells .ensures,
+        append-assoc,
+      ),
+    )
 
 pub write-answers-spec : {M : Type 1} → statement M
 write-answers-spec =

@@ -9,17 +9,20 @@ use Rattle.stream.proofs.lines.write_outcome.Tie as tie
 returns : tie.Need-returns
 returns c =
     let a = c .before .before .write-answers .ensures in
-    (counts _ _ (omega (arith, a .0)), prints-answers (c .before .before .before .before .before .before .before .before .args .o) _ (c .before .before .before .before .enum-told .given .1) (a .1))
+    let m = c .before .before .before .before in
+    (counts _ _ (omega (arith, a .0)), prints-answers (m .before .before .before .before .args .o) _ (m .enum-told .given .1) (a .1))
 
 returns-2 : tie.Need-returns-2
 returns-2 c =
     let a = c .before .before .write-refused .ensures in
-    (counts _ _ (omega (arith, a .0)), prints-refused (c .before .before .before .before .before .before .before .before .before .args .o) _ _ _ (c .before .before .before .before .before .told .given .1) (a .1))
+    let m = c .before .before .before .before .before in
+    (counts _ _ (omega (arith, a .0)), prints-refused (m .before .before .before .before .args .o) _ _ _ (m .told .given .1) (a .1))
 
 returns-3 : tie.Need-returns-3
 returns-3 c =
     let a = c .before .before .push .ensures in
-    (counts _ _ (omega arith), prints-unreadable (c .before .before .before .before .before .before .before .before .before .args .o) _ (c .before .before .before .before .before .enum-told2 .given .1) (a .1))
+    let m = c .before .before .before .before .before in
+    (counts _ _ (omega arith), prints-unreadable (m .before .before .before .before .args .o) _ (m .enum-told2 .given .1) (a .1))
 
 pub write-outcome-spec : {M : Type 1} → statement M
 write-outcome-spec =

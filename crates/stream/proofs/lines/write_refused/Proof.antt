@@ -11,14 +11,15 @@ use Rattle.stream.proofs.lines.write_refused.Tie as tie
 
 returns : tie.Need-returns
 returns c =
-    let z = c .before .before .push3 .ensures in
-    let y = c .before .before .before .before .before .before .before .push-decimal2 .ensures in
-    let x = c .before .before .before .before .before .before .before .before .before .before .before .push2 .ensures in
-    let v = c .before .before .before .before .before .before .before .before .before .before .before .before .before .before .before .before .push-decimal .ensures in
-    let n = c .before .before .before .before .before .before .before .before .before .before .before .before .before .before .before .before .before .number .ensures in
-    let u = c .before .before .before .before .before .before .before .before .before .before .before .before .before .before .before .before .before .before .before .before .before .push .ensures in (
+    let z = c .before .before in
+    let y = z .before .before .before .before .before in
+    let x = y .before .before .before .before in
+    let v = x .before .before .before .before .before in
+    let n = v .before in
+    let u = n .before .before .before .before in (
       omega arith,
-      refused-line _ _ _ _ _ _ _ _ n (u .1) (v .1) (x .1) (y .1) (z .1),
+      refused-line _ _ _ _ _ _ _ _ (n .number .ensures) (u .push .ensures .1) (v .push-decimal .ensures .1) (x .push2 .ensures .1)
+          (y .push-decimal2 .ensures .1) (z .push3 .ensures .1),
     )
 
 pub write-refused-spec : {M : Type 1} → statement M

@@ -21,7 +21,8 @@ returns c = let s = c .before .before .before .before .before .before in
 returns-2 : tie.Need-returns-2
 returns-2 c =
     let s = c .before .before .before .before .before .before .before .before .before .before in
-    (tt, kept (now (s .args .buf)) (c .before .before .before .before .before .before .before .read .last .1 .0) (s .args .have) (omega arith))
+    let r = c .before .before .before .before .before .before .before .read in
+    (tt, kept (now (s .args .buf)) (r .last .1 .0) (s .args .have) (omega arith))
 
 returns-3 : tie.Need-returns-3
 returns-3 c =

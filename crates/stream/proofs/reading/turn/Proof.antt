@@ -45,21 +45,25 @@ same-length c = search needs
 
 returns-2 : tie.Need-returns-2
 returns-2 c =
-    let s = c .before .before .before .before .before .before .before .before .before .before .before .before .before .before .before .before in
-    let r = c .before .before .before .before .before .before .before .before .before .before .before .with-room in
-    let f = c .before .before .before .before .before .before .before .fill in
+    let k = c .before .before .before .before .before .before .before in
+    let f = k .fill in
     let g = rw (c .before .before .before .got .given .1) at (f .ensures .0) in
+    let q = k .before .before .before .before in
+    let r = q .with-room in
+    let i = q .before .before in
+    let s = i .before .before .before in
     turned-taken (now (s .args .buf)) (s .args .t) (r .last .0) (r .result) (s .pre) (r .ensures) (f .last .0) _ _ (f .ensures .1) (g .0)
     (omega (arith, g .1, r .ensures .room)) (search needs)
-    (omega (arith, r .ensures .off, c .before .before .before .before .before .before .before .before .before .before .before .before .before .if1 .left)) (c .taken .ensures)
+    (omega (arith, r .ensures .off, i .if1 .left)) (c .taken .ensures)
 
 same-length-2 : tie.Need-same-length-2
 same-length-2 c = search needs
 
 returns-3 : tie.Need-returns-3
 returns-3 c =
-    let s = c .before .before .before .before .before .before .before .before .before .before .before .before .before .before in
-    let r = c .before .before .before .before .before .before .before .before .before .with-room in
+    let q = c .before .before .before .before .before .before .before .before .before in
+    let r = q .with-room in
+    let s = q .before .before .before .before .before in
     turned-ended (now (s .args .buf)) (s .args .t) (r .last .0) (r .result) (s .pre) (r .ensures) _ _ (c .ended .ensures)
 
 same-length-3 : tie.Need-same-length-3
@@ -67,8 +71,9 @@ same-length-3 c = search needs
 
 returns-4 : tie.Need-returns-4
 returns-4 c =
-    let s = c .before .before .before .before .before .before .before .before .before .before .before .before .before .before in
-    let r = c .before .before .before .before .before .before .before .before .before .with-room in
+    let q = c .before .before .before .before .before .before .before .before .before in
+    let r = q .with-room in
+    let s = q .before .before .before .before .before in
     turned-unreadable (now (s .args .buf)) (s .args .t) _ (r .result) _ (c .tell2 .ensures)
 
 pub turn-spec : {M : Type 1} → statement M
