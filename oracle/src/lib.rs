@@ -24,6 +24,7 @@ include!(concat!(env!("OUT_DIR"), "/geo_modules.rs"));
 pub mod bench;
 pub mod compare;
 pub mod jts_cases;
+pub mod program;
 pub mod sample;
 
 mod asked;
