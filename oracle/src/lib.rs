@@ -33,6 +33,7 @@ mod bench_plans;
 mod ours;
 mod pieces;
 mod plan_pieces;
+mod program_bench;
 mod random;
 mod rule;
 mod rule_plan;

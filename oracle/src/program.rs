@@ -310,12 +310,15 @@ fn far(program: &Path) -> bool {
     printed == format!("refused 3 at {at}\n")
 }
 
-/// `program [SEED [TIMES]]`, or `program far`.
+/// `program [SEED [TIMES]]`, `program far` or `program bench`.
 pub fn main() -> i32 {
     let native = PathBuf::from("../target/native/relate");
     let arguments: Vec<String> = std::env::args().skip(1).collect();
     if arguments.first().is_some_and(|word| word == "far") {
         return i32::from(!far(&native));
+    }
+    if arguments.first().is_some_and(|word| word == "bench") {
+        return crate::program_bench::main(&native);
     }
     let number = |k: usize, other| arguments.get(k).map_or(other, |word| word.parse().expect("a number"));
     let seed = number(0, 1);

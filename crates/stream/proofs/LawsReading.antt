@@ -23,7 +23,8 @@ use Rattle.stream.specs.declared.reading.Round.{Round}
 use Rattle.stream.specs.Drain.{isPart, Drains}
 use Rattle.stream.specs.Input.{startCells, Answers, Settled}
 use Rattle.stream.specs.Input.Settled.{at-end, at-refusal, unreadable}
-use Rattle.stream.specs.Reading.{nextOf, toldAs, endedAs, gotOf, restOf, Fits, Follows, Standing, Ready, Taken, Goes, Tells, After, Turned, Read}
+use Rattle.stream.specs.Reading.{nextOf, toldAs, endedAs, gotOf, restOf, Fits, Follows}
+use Rattle.stream.specs.Reading.{Standing, Ready, Taken, Goes, Tells, After, Turned, Read}
 use Rattle.stream.proofs.LawsLists.{longer, same-part, used-part, part-length}
 use Rattle.stream.proofs.LawsDrain.{drained-left}
 use Rattle.stream.proofs.LawsInput.{drained-part, drained-refused, settles-all, settles-short, settled-before}
@@ -124,7 +125,8 @@ fits-same have a b g e f = subst (λ (n : ℕ). Fits have n g) e f
 
 -- whatever a read brought
 pub turned-follows : (b : List ℕ) (t : Round) (b1 : List ℕ) (u : Round) → Standing b t → Ready b t b1 u
-    → (b2 : List ℕ) (got : Got) (r : Round) → take (u .have) b2 ≡ take (u .have) b1 → Fits (u .have) 131072 got → length b2 ≡ 131072 → u .off ≤ 9223372036854775808
+    → (b2 : List ℕ) (got : Got) (r : Round) → take (u .have) b2 ≡ take (u .have) b1 → Fits (u .have) 131072 got
+    → length b2 ≡ 131072 → u .off ≤ 9223372036854775808
     → Follows b2 u got r → Turned b t b2 r
 turned-follows b t b1 u standing ready b2 (G.Bytes n) r same fits room near f =
     turned-taken b t b1 u standing ready b2 n r same (fits .0) (fits .1) room near f

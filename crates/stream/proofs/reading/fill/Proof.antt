@@ -20,8 +20,9 @@ returns : tie.Need-returns
 returns c =
     let k = c .before .count in
     let q = c .before .before .before .before .before .before in
+    let z = toZ w64 (ofZ w64 (q .read .result)) in
     let s = q .before .before .before in (
-      got-fits (c .got-of .result) (toZ w64 (ofZ w64 (q .read .result))) (k .result) (s .args .have) (length (now (s .args .buf))) (c .got-of .ensures)
+      got-fits (c .got-of .result) z (k .result) (s .args .have) (length (now (s .args .buf))) (c .got-of .ensures)
           (within (s .args .have) (k .result) (length (now (s .args .buf))) _ _ (s .pre) (search needs) (k .ensures .0 .0)),
       kept (now (s .args .buf)) (q .read .last .1 .0) (s .args .have) (omega arith),
     )

@@ -29,7 +29,8 @@ returns-2 c =
     let i = q .before .before in
     let s = i .before .before .before in
     let room = r .ensures .room in
-    turned-follows (now (s .args .buf)) (s .args .t) (r .last .0) (r .result) (s .pre) (r .ensures) (f .last .0) (f .result) _ (f .ensures .1)
+    turned-follows (now (s .args .buf)) (s .args .t) (r .last .0) (r .result) (s .pre) (r .ensures) (f .last .0) (f .result) _
+    (f .ensures .1)
     (rw room at (f .ensures .0)) (search needs) (omega (arith, r .ensures .off, i .if1 .left)) (c .after .ensures)
 
 pub turn-spec : {M : Type 1} → statement M
