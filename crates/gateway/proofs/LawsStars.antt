@@ -17,6 +17,7 @@ use Rattle.star.specs.Calls.{bundledOf, starCall}
 use Rattle.star.specs.Ends.{checkedOf}
 use Rattle.plan.specs.EndBytes.{Ends, good, bad, readEnds, endsCall}
 use Rattle.star.specs.declared.«topology_position».Sides.{Sides}
+use Rattle.plan.proofs.LawsRecord.{bad-good}
 use Rattle.gateway.specs.Stars.{codeOf, sidesByte, table}
 
 pub third : (s : Sides) (j : ℕ) → 2 ≤ j → codeOf (s .right) ≡ sidesByte s j
@@ -32,9 +33,6 @@ table-next f out k h e = rw (add-one, take-suc-set out k (f k) h, e) refl
 
 pub table-all : (f : ℕ → ℕ) (out : List ℕ) (k : ℕ) → length out ≤ k → take k out ≡ table k f → out ≡ table k f
 table-all f out k h e = sym (take-all k out h) ∙ e
-
-bad-good : {A : Type 0} {es : List EdgeEnd} {r : Refusal} → bad r ≡ good es → A
-bad-good q = absurd (let z : _≡_ {A = ℕ} 0 1 = cc in omega arith)
 
 few-by : (n : ℕ) (t u : Bool) (x y : Refusal) (rest : Ends) (es : List EdgeEnd) → ltb 32 n ≡ u
     → cond t (cond u (bad x) rest) (bad y) ≡ good es → n ≤ 32

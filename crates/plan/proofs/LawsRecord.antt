@@ -2,9 +2,9 @@
 use Prim.Native.Nat.{ℕ, zero, suc, _+_, _-_, _≤_, _<_}
 use mathlib.Core.Path.{_≡_, refl, sym, ap, subst}
 use mathlib.Core.Bool.{Bool, true, false, cond, _||_}
-use mathlib.Core.List.{List, [], _∷_, _++_}
+use mathlib.Core.List.{List, [], _∷_}
 use native.Mathlib.Omega.{arith}
-use lib.ListN.{length, take, getD, replicate}
+use lib.ListN.{length, take, replicate}
 use lib.Seq.{take-append-seam, getD-take, length-take-le}
 use Rattle.de9im.specs.declared.refusal.Refusal.{Refusal}
 use Rattle.de9im.specs.declared.refusal.Refusal.the-variants.{Direction, MissingLeft}
@@ -33,7 +33,7 @@ or-left false b e = refl
 clash : {A : Type 0} {e : EdgeEnd} {r : Refusal} → E.Bad r ≡ E.Is e → A
 clash q = absurd (let z : _≡_ {A = ℕ} 0 1 = cc in omega arith)
 
-bad-good : {A : Type 0} {es : List EdgeEnd} {r : Refusal} → bad r ≡ good es → A
+pub bad-good : {A : Type 0} {es : List EdgeEnd} {r : Refusal} → bad r ≡ good es → A
 bad-good q = absurd (let z : _≡_ {A = ℕ} 0 1 = cc in omega arith)
 
 -- an end that was read has a direction that may be taken
