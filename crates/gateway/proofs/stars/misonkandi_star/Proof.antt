@@ -1,6 +1,6 @@
 use borrow.Author.Needs.{needs}
-use mathlib.Core.Path.{_≡_, refl, sym, ap, _∙_}
-use Rattle.de9im.specs.declared.«coordinate_position».Coded.the-variants.{Is, Bad}
+use mathlib.Core.Path.{_≡_, sym, _∙_}
+use Rattle.de9im.specs.declared.«coordinate_position».Coded.the-variants.{Is}
 use Rattle.de9im.specs.Position.{codedOf}
 use Rattle.gateway.proofs.stars.misonkandi_star.Statement.{statement}
 use Rattle.gateway.proofs.stars.misonkandi_star.Tie as tie
