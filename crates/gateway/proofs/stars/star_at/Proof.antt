@@ -27,7 +27,8 @@ returns c =
     let f = c .before .before .before .before .before .before .read-ends in
     let s = c .before .before .before .before .before .before .before .before .args in
     let t = s .ends .now in
-    let e : endsCall t ≡ good (take (length t / 15) (f .result .ends)) = f .ensures .0 ∙ simp (c .before .before .before .enum-told .given .1) in
+    let e : endsCall t ≡ good (take (length t / 15) (f .result .ends)) =
+    f .ensures .0 ∙ simp (c .before .before .before .enum-told .given .1) in
     rw (call-star t (f .result .ends) (f .ensures .1) e (s .p) (s .q), ← c .before .before .star-of .ensures) (c .put-star .ensures)
 
 returns-2 : tie.Need-returns-2
