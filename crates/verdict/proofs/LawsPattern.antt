@@ -58,7 +58,7 @@ module _ (t : DimensionMatcher → ℕ → Bool) where
   each-every (b ∷ bs) (n ∷ ns) f =
       simp (f 0 (omega arith) (omega arith)) (each-every bs ns (λ k h l. f (suc k) (omega arith) (omega arith)))
 
-says-yes : (r : Matched) → saysYes r ≡ true → r ≡ Yes
+pub says-yes : (r : Matched) → saysYes r ≡ true → r ≡ Yes
 says-yes Yes e = refl
 says-yes No e = not-both e refl
 says-yes (Refused r) e = not-both e refl
@@ -71,7 +71,7 @@ module _ (p ns : List ℕ) (g : WhollyGood p) where
   letterAt k = letterOf (getD p k 0)
 
   -- a number as it is read
-  numbers-at : (ts : List ℕ) (k : ℕ) → k < 9 → getD (numbers ts) k 0 ≡ min (getD ts k 0) 3
+  pub numbers-at : (ts : List ℕ) (k : ℕ) → k < 9 → getD (numbers ts) k 0 ≡ min (getD ts k 0) 3
   numbers-at ts k l = nine-at (λ j. dimNo (dimOf (getD ts j 0))) k l ∙ number-back (getD ts k 0)
 
   small : (k : ℕ) → k < 9 → getD (numbers ns) k 0 ≤ 3

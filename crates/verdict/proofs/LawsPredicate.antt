@@ -112,6 +112,9 @@ module _ (ns : List ℕ) where
       → Both (answerOf p) ns
   opens p y n e f = record { ends-yes = ends p true y e; ends-no = ends p false n f }
 
+  lifted-here : (c : ℕ) → c < 9 → eqb (number (getD (lifted (only c) ns) c 0)) 0 ≡ false
+  lifted-here c h = rw (nine-at (λ k. lift (only c k) (getD ns k 0)) c h, eq-eqb c c refl) refl
+
   -- a verdict by a test
   by-test : (answer : List ℕ → Bool) (v w : Verdict) (b t : Bool) → b ≡ t → (b ≡ true → Means v answer ns) → (b ≡ false → Means w answer ns)
       → Means (cond t v w) answer ns
@@ -155,39 +158,42 @@ module _ (ns : List ℕ) where
       (λ e rs os r. ap not (apart-closed e rs os r))
 
   -- two cells that must be F
-  closed-two : (p : Predicate) (j k : ℕ) → j < 9 → k < 9
-      → ((ts : List ℕ) → eqb (number (getD ts j 0)) 0 ≡ false → holds p (matrixOf ts) ≡ false)
-      → ((ts : List ℕ) → eqb (number (getD ts k 0)) 0 ≡ false → holds p (matrixOf ts) ≡ false)
-      → (eqb (number (getD ns j 0)) 0 && eqb (number (getD ns k 0)) 0) ≡ false → Always (answerOf p) false ns
-  closed-two p j k h l f g = either-not (eqb (number (getD ns j 0)) 0) (eqb (number (getD ns k 0)) 0) (closed p j h f) (closed p k l g)
+  module _ (p : Predicate) (j k : ℕ) (h : j < 9) (l : k < 9)
+      (f : (ts : List ℕ) → eqb (number (getD ts j 0)) 0 ≡ false → holds p (matrixOf ts) ≡ false)
+      (g : (ts : List ℕ) → eqb (number (getD ts k 0)) 0 ≡ false → holds p (matrixOf ts) ≡ false)
+    where
+    closed-two : (eqb (number (getD ns j 0)) 0 && eqb (number (getD ns k 0)) 0) ≡ false → Always (answerOf p) false ns
+    closed-two = either-not (eqb (number (getD ns j 0)) 0) (eqb (number (getD ns k 0)) 0) (closed p j h f) (closed p k l g)
+
+    -- and that alone: while they are F, lifting II gives yes and lifting one of them no
+    two-sound : (eqb (number (getD ns j 0)) 0 ≡ true → eqb (number (getD ns k 0)) 0 ≡ true → holds p (matrixOf (lifted (only 0) ns)) ≡ true)
+        → Means (cond (eqb (number (getD ns j 0)) 0 && eqb (number (getD ns k 0)) 0) Open NoForGood) (answerOf p) ns
+    two-sound y =
+        let x = eqb (number (getD ns j 0)) 0 in
+        let z = eqb (number (getD ns k 0)) 0 in
+        by-test (answerOf p) Open NoForGood (x && z) (x && z) refl
+        (λ e. opens p (only 0) (only j) (y (and-left x z e) (and-right x z e)) (f (lifted (only j) ns) (lifted-here j h)))
+        closed-two
 
   within-sound : Means (verdictOf Within m) (answerOf Within) ns
   unfolding holds agreeAll letterOf
   within-sound =
-      by-test (answerOf Within) Open NoForGood (inner m) (inner m) refl
-      (λ e. opens Within (only 0) (only 2) (simp (dim-back, and-left (isF m I E) _ e, and-right (isF m I E) _ e)) (simp (dim-back, and-false)))
-      (closed-two Within 2 5 (omega arith) (omega arith) (λ ts f. simp (f, and-false)) (λ ts f. simp (f, and-false)))
+      two-sound Within 2 5 (omega arith) (omega arith) (λ ts f. simp (f, and-false)) (λ ts f. simp (f, and-false)) (λ e f. simp (dim-back, e, f))
 
   contains-sound : Means (verdictOf Contains m) (answerOf Contains) ns
   unfolding holds agreeAll letterOf
   contains-sound =
-      by-test (answerOf Contains) Open NoForGood (outer m) (outer m) refl
-      (λ e. opens Contains (only 0) (only 6) (simp (dim-back, and-left (isF m E I) _ e, and-right (isF m E I) _ e)) (simp (dim-back, and-false)))
-      (closed-two Contains 6 7 (omega arith) (omega arith) (λ ts f. simp (f, and-false)) (λ ts f. simp (f, and-false)))
+      two-sound Contains 6 7 (omega arith) (omega arith) (λ ts f. simp (f, and-false)) (λ ts f. simp (f, and-false)) (λ e f. simp (dim-back, e, f))
 
   covered-sound : Means (verdictOf CoveredBy m) (answerOf CoveredBy) ns
   unfolding holds agreeAll letterOf
   covered-sound =
-      by-test (answerOf CoveredBy) Open NoForGood (inner m) (inner m) refl
-      (λ e. opens CoveredBy (only 0) (only 2) (simp (dim-back, and-left (isF m I E) _ e, and-right (isF m I E) _ e)) (simp (dim-back, and-false)))
-      (closed-two CoveredBy 2 5 (omega arith) (omega arith) (λ ts f. simp (f, and-false)) (λ ts f. simp (f, and-false)))
+      two-sound CoveredBy 2 5 (omega arith) (omega arith) (λ ts f. simp (f, and-false)) (λ ts f. simp (f, and-false)) (λ e f. simp (dim-back, e, f))
 
   covers-sound : Means (verdictOf Covers m) (answerOf Covers) ns
   unfolding holds agreeAll letterOf
   covers-sound =
-      by-test (answerOf Covers) Open NoForGood (outer m) (outer m) refl
-      (λ e. opens Covers (only 0) (only 6) (simp (dim-back, and-left (isF m E I) _ e, and-right (isF m E I) _ e)) (simp (dim-back, and-false)))
-      (closed-two Covers 6 7 (omega arith) (omega arith) (λ ts f. simp (f, and-false)) (λ ts f. simp (f, and-false)))
+      two-sound Covers 6 7 (omega arith) (omega arith) (λ ts f. simp (f, and-false)) (λ ts f. simp (f, and-false)) (λ e f. simp (dim-back, e, f))
 
   equal-sound : Means (verdictOf EqualTopo m) (answerOf EqualTopo) ns
   unfolding holds agreeAll letterOf

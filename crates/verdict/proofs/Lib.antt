@@ -8,3 +8,4 @@ pub mod LawsPredicate
 pub mod LawsLetter
 pub mod LawsPattern
 pub mod LawsLoop
+pub mod LawsNine
