@@ -24,7 +24,7 @@ use Rattle.de9im.specs.declared.predicates.Predicate.the-variants.{
   Crosses,
   Overlaps,
 }
-use Rattle.de9im.specs.Cells.{numberAt, matrixOf}
+use Rattle.de9im.specs.Cells.{numberAt, cellsOf, matrixOf}
 use Rattle.de9im.specs.Dimension.{dimNo, dimOf}
 use Rattle.de9im.specs.Letters.{letterOf}
 use Rattle.de9im.specs.Matrix.{Matrix}
@@ -371,3 +371,20 @@ predicate-sound ContainsProperly ns = properly-sound ns
 predicate-sound Touches ns = touches-sound ns
 predicate-sound Crosses ns = crosses-sound ns
 predicate-sound Overlaps ns = overlaps-sound ns
+
+-- a matrix three by three has the table's verdict too
+verdict-back : (p : Predicate) (m : Matrix) → verdictOf p (matrixOf (cellsOf m)) ≡ verdictOf p m
+verdict-back Disjoint m = simp dim-back
+verdict-back Intersects m = simp dim-back
+verdict-back Within m = simp dim-back
+verdict-back Contains m = simp dim-back
+verdict-back EqualTopo m = simp dim-back
+verdict-back CoveredBy m = simp dim-back
+verdict-back Covers m = simp dim-back
+verdict-back ContainsProperly m = simp dim-back
+verdict-back Touches m = simp dim-back
+verdict-back Crosses m = simp dim-back
+verdict-back Overlaps m = simp dim-back
+
+pub matrix-sound : (p : Predicate) (m : Matrix) → Means (verdictOf p m) (answerOf p) (cellsOf m)
+matrix-sound p m = subst (λ (v : Verdict). Means v (answerOf p) (cellsOf m)) (verdict-back p m) (predicate-sound p (cellsOf m))

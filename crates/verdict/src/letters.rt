@@ -24,6 +24,10 @@ pub(crate) fn is_firm(w: DimensionMatcher, d: Dimensions) -> bool
     match w {
         DimensionMatcher::Anything => true,
         DimensionMatcher::NonEmpty => number(d) != 0,
-        DimensionMatcher::Exact(e) => (number(d) == 3) & (number(e) == 3),
+        DimensionMatcher::Exact(e) => {
+            let n = number(d);
+            let k = number(e);
+            (n == 3) & (k == 3)
+        }
     }
 }

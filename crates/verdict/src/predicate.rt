@@ -3,7 +3,6 @@ use crate::Verdict;
 use crate::pick;
 use de9im::cells::Cells;
 use de9im::cells::from_cells;
-use de9im::cells::to_cells;
 use de9im::dimensions;
 use de9im::dimensions::Dimensions;
 use de9im::dimensions::number;
@@ -103,5 +102,5 @@ pub fn of_cells(p: Predicate, cells: Cells) -> Verdict
 pub fn of_matrix(p: Predicate, m: IntersectionMatrix) -> Verdict
     ensures { λ r. ⌜ Means r (answerOf p) (cellsOf m) ⌝ }
 {
-    of_cells(p, to_cells(m))
+    at(p, m)
 }

@@ -9,4 +9,5 @@ of-cells-spec =
     (tie.spec
     (λ c κs. search needs)
     (λ c κs. search needs)
-    (λ c. rw (c .at .ensures, c .before .from-cells .ensures) (predicate-sound (c .before .before .args .p) (c .before .before .args .cells))))
+    (λ c. let s = c .before .before .args in
+        rw (c .at .ensures, c .before .from-cells .ensures) (predicate-sound (s .p) (s .cells))))

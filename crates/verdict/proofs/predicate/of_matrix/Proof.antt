@@ -1,4 +1,5 @@
 use borrow.Author.Needs.{needs}
+use Rattle.verdict.proofs.LawsPredicate.{matrix-sound}
 use Rattle.verdict.proofs.predicate.of_matrix.Statement.{statement}
 use Rattle.verdict.proofs.predicate.of_matrix.Tie as tie
 
@@ -7,5 +8,4 @@ of-matrix-spec =
     tie.close
     (tie.spec
     (λ c κs. search needs)
-    (λ c κs. search needs)
-    (λ c. rw (c .before .to-cells .ensures) at (c .of-cells .ensures)))
+    (λ c. rw (c .at .ensures) (matrix-sound (c .before .args .p) (c .before .args .m))))
