@@ -34,7 +34,8 @@ and-end true = refl
 and-end false = refl
 
 module _ (t : DimensionMatcher → ℕ → Bool) (p ns : List ℕ) (nine : length p ≡ 9) (b : Bool) where
-  pub every-next : (k : ℕ) (w : DimensionMatcher) → k < 9 → letterOf (getD p k 0) ≡ Good w → every t p (numbers ns) ≡ (b && everyFrom t p ns k)
+  pub every-next : (k : ℕ) (w : DimensionMatcher) → k < 9 → letterOf (getD p k 0) ≡ Good w
+      → every t p (numbers ns) ≡ (b && everyFrom t p ns k)
       → every t p (numbers ns) ≡ ((b && t w (dimNo (dimOf (getD ns k 0)))) && everyFrom t p ns (k + 1))
   unfolding every
   every-next k w h e f = f ∙ ap (λ (x : Bool). b && x) step ∙ regroup b (t w (dimNo (dimOf (getD ns k 0)))) (everyFrom t p ns (k + 1))

@@ -1,5 +1,5 @@
--- Nine records are needed: from FFFFFFFFF the pattern 000000000 is open, and no shorter run makes it yes. A record that leaves every cell at
--- most 0 raises at most one of them. Assumes nothing.
+-- Nine records are needed: from FFFFFFFFF the pattern 000000000 is open, and no shorter run makes it yes. A record that leaves every
+-- cell at most 0 raises at most one of them. Assumes nothing.
 use Prim.Native.Nat.{ℕ, zero, suc, _+_, _*_, _/_, _%_, _≤_, _<_, min, max}
 use mathlib.Core.Path.{_≡_, refl, sym, ap, _∙_}
 use mathlib.Core.Bool.{Bool, true, false, cond, _&&_}
@@ -106,10 +106,10 @@ module _ (ns : List ℕ) where
   edge-adds l small =
       let ms = cellsOf (pourLabel (matrixOf ns) l) in
       let t : sum (readIn ms) ≤ sum (readIn ns) + 0 = adds (readIn ms) (readIn ns) (λ i j. 0) (λ i j h k.
-          only-node (getD ms (3 * i + j) 0) (readIn ns i j) 0 (labelInto l i j)
-          (cells-at (pourLabel (matrixOf ns) l) i j h k ∙ label-cell l (matrixOf ns) (matrix-shaped ns) i j h k ∙
-          rw (given-cell ns i j h k) (omega arith))
-          (small i j h k) (label-none l i j)) in
+      only-node (getD ms (3 * i + j) 0) (readIn ns i j) 0 (labelInto l i j)
+      (cells-at (pourLabel (matrixOf ns) l) i j h k ∙ label-cell l (matrixOf ns) (matrix-shaped ns) i j h k ∙
+      rw (given-cell ns i j h k) (omega arith))
+      (small i j h k) (label-none l i j)) in
       omega arith
 
   node-adds : (n : Node) (ls : List Label) → AddsOne (cellsOf (pourLabels (pourNode (matrixOf ns) (n .a) (n .b)) ls))
@@ -119,12 +119,12 @@ module _ (ns : List ℕ) where
       let ms = cellsOf (pourLabels m ls) in
       let x = into (n .a) (n .b) ZeroDimensional in
       let t : sum (readIn ms) ≤ sum (readIn ns) + sum x = adds (readIn ms) (readIn ns) x (λ i j h k.
-          only-node (getD ms (3 * i + j) 0) (readIn ns i j) (x i j) (labelsInto ls i j)
-          (cells-at (pourLabels m ls) i j h k ∙
-          labels-cell m ls (raise-shape (matrixOf ns) (n .a) (n .b) ZeroDimensional (matrix-shaped ns)) i j h k ∙
-          ap (λ (y : ℕ). max y (labelsInto ls i j)) (raise-cell (matrixOf ns) (n .a) (n .b) ZeroDimensional (matrix-shaped ns) i j h k) ∙
-          ap (λ (y : ℕ). max (max y (x i j)) (labelsInto ls i j)) (given-cell ns i j h k))
-          (small i j h k) (labels-none ls i j)) in
+      only-node (getD ms (3 * i + j) 0) (readIn ns i j) (x i j) (labelsInto ls i j)
+      (cells-at (pourLabels m ls) i j h k ∙
+      labels-cell m ls (raise-shape (matrixOf ns) (n .a) (n .b) ZeroDimensional (matrix-shaped ns)) i j h k ∙
+      ap (λ (y : ℕ). max y (labelsInto ls i j)) (raise-cell (matrixOf ns) (n .a) (n .b) ZeroDimensional (matrix-shaped ns) i j h k) ∙
+      ap (λ (y : ℕ). max (max y (x i j)) (labelsInto ls i j)) (given-cell ns i j h k))
+      (small i j h k) (labels-none ls i j)) in
       one (sum (readIn ms)) (sum (readIn ns)) (sum x) t (node-one (n .a) (n .b))
     where
       one : (c old y : ℕ) → c ≤ old + y → y ≤ 1 → c ≤ old + 1
@@ -166,16 +166,16 @@ unfolding letterOf
 yes-points os e k h =
     let y = yes-each (matrixOf os) allPoints all-good (says-yes (matchesOf (matrixOf os) allPoints) e) in
     let at : (j : ℕ) → j < 9 → getD (cellsOf (matrixOf os)) j 0 ≡ 1 =
-        nine-cases (λ j. getD (cellsOf (matrixOf os)) j 0 ≡ 1)
-        (eqb-true _ 1 (y 0 (omega arith)))
-        (eqb-true _ 1 (y 1 (omega arith)))
-        (eqb-true _ 1 (y 2 (omega arith)))
-        (eqb-true _ 1 (y 3 (omega arith)))
-        (eqb-true _ 1 (y 4 (omega arith)))
-        (eqb-true _ 1 (y 5 (omega arith)))
-        (eqb-true _ 1 (y 6 (omega arith)))
-        (eqb-true _ 1 (y 7 (omega arith)))
-        (eqb-true _ 1 (y 8 (omega arith))) in
+    nine-cases (λ j. getD (cellsOf (matrixOf os)) j 0 ≡ 1)
+    (eqb-true _ 1 (y 0 (omega arith)))
+    (eqb-true _ 1 (y 1 (omega arith)))
+    (eqb-true _ 1 (y 2 (omega arith)))
+    (eqb-true _ 1 (y 3 (omega arith)))
+    (eqb-true _ 1 (y 4 (omega arith)))
+    (eqb-true _ 1 (y 5 (omega arith)))
+    (eqb-true _ 1 (y 6 (omega arith)))
+    (eqb-true _ 1 (y 7 (omega arith)))
+    (eqb-true _ 1 (y 8 (omega arith))) in
     omega (arith, at k h, numbers-at allPoints os all-good os k h)
 
 -- and no run of fewer than nine does
@@ -183,16 +183,16 @@ pub nine-needed : (rs : List (List ℕ)) (os : List ℕ) → Run nineZeros rs os
 nine-needed rs os r e =
     let at = yes-points os e in
     let nine : sum (readIn os) ≡ 9 =
-        rw (
-          at 0 (omega arith),
-          at 1 (omega arith),
-          at 2 (omega arith),
-          at 3 (omega arith),
-          at 4 (omega arith),
-          at 5 (omega arith),
-          at 6 (omega arith),
-          at 7 (omega arith),
-          at 8 (omega arith),
-        ) refl in
+    rw (
+      at 0 (omega arith),
+      at 1 (omega arith),
+      at 2 (omega arith),
+      at 3 (omega arith),
+      at 4 (omega arith),
+      at 5 (omega arith),
+      at 6 (omega arith),
+      at 7 (omega arith),
+      at 8 (omega arith),
+    ) refl in
     let few = rw nine at (run-adds r (λ i j h k. omega (arith, at (3 * i + j) (omega arith)))) in
     omega (arith, few)

@@ -96,6 +96,10 @@ none k = stay
 abbrev only : ℕ → ℕ → Lift
 only c k = cond (eqb k c) whole stay
 
+-- a predicate says yes only while cell k is F
+abbrev Asks : Predicate → ℕ → Type 0
+Asks p k = (ts : List ℕ) → eqb (number (getD ts k 0)) 0 ≡ false → holds p (matrixOf ts) ≡ false
+
 -- the largest of three below 2 is below what is 2
 lower : (x y z u : ℕ) → x < 3 → y < 3 → z < 3 → max (max x y) z < max (max x u) 3
 lower x y z u a b c = omega arith
@@ -129,8 +133,7 @@ module _ (ns : List ℕ) where
   gone ts a k l e = let f = eqb-false (number (getD ns k 0)) 0 e in ne-eqb (number (getD ts k 0)) 0 (λ w. omega (arith, rise ts a k l))
 
   -- a predicate that a cell must be F for: once it isn't, no for good
-  closed : (p : Predicate) (k : ℕ) → k < 9 → ((ts : List ℕ) → eqb (number (getD ts k 0)) 0 ≡ false → holds p (matrixOf ts) ≡ false)
-      → eqb (number (getD ns k 0)) 0 ≡ false → Always (answerOf p) false ns
+  closed : (p : Predicate) (k : ℕ) → k < 9 → Asks p k → eqb (number (getD ns k 0)) 0 ≡ false → Always (answerOf p) false ns
   closed p k l f e = always (holds p) false ns (λ ts a. f ts (gone ts a k l e))
 
   apart-closed : disjoint m ≡ false → Always (answerOf Disjoint) false ns
@@ -158,10 +161,7 @@ module _ (ns : List ℕ) where
       (λ e rs os r. ap not (apart-closed e rs os r))
 
   -- two cells that must be F
-  module _ (p : Predicate) (j k : ℕ) (h : j < 9) (l : k < 9)
-      (f : (ts : List ℕ) → eqb (number (getD ts j 0)) 0 ≡ false → holds p (matrixOf ts) ≡ false)
-      (g : (ts : List ℕ) → eqb (number (getD ts k 0)) 0 ≡ false → holds p (matrixOf ts) ≡ false)
-    where
+  module _ (p : Predicate) (j k : ℕ) (h : j < 9) (l : k < 9) (f : Asks p j) (g : Asks p k) where
     closed-two : (eqb (number (getD ns j 0)) 0 && eqb (number (getD ns k 0)) 0) ≡ false → Always (answerOf p) false ns
     closed-two = either-not (eqb (number (getD ns j 0)) 0) (eqb (number (getD ns k 0)) 0) (closed p j h f) (closed p k l g)
 
@@ -178,22 +178,26 @@ module _ (ns : List ℕ) where
   within-sound : Means (verdictOf Within m) (answerOf Within) ns
   unfolding holds agreeAll letterOf
   within-sound =
-      two-sound Within 2 5 (omega arith) (omega arith) (λ ts f. simp (f, and-false)) (λ ts f. simp (f, and-false)) (λ e f. simp (dim-back, e, f))
+      two-sound Within 2 5 (omega arith) (omega arith) (λ ts f. simp (f, and-false)) (λ ts f. simp (f, and-false))
+      (λ e f. simp (dim-back, e, f))
 
   contains-sound : Means (verdictOf Contains m) (answerOf Contains) ns
   unfolding holds agreeAll letterOf
   contains-sound =
-      two-sound Contains 6 7 (omega arith) (omega arith) (λ ts f. simp (f, and-false)) (λ ts f. simp (f, and-false)) (λ e f. simp (dim-back, e, f))
+      two-sound Contains 6 7 (omega arith) (omega arith) (λ ts f. simp (f, and-false)) (λ ts f. simp (f, and-false))
+      (λ e f. simp (dim-back, e, f))
 
   covered-sound : Means (verdictOf CoveredBy m) (answerOf CoveredBy) ns
   unfolding holds agreeAll letterOf
   covered-sound =
-      two-sound CoveredBy 2 5 (omega arith) (omega arith) (λ ts f. simp (f, and-false)) (λ ts f. simp (f, and-false)) (λ e f. simp (dim-back, e, f))
+      two-sound CoveredBy 2 5 (omega arith) (omega arith) (λ ts f. simp (f, and-false)) (λ ts f. simp (f, and-false))
+      (λ e f. simp (dim-back, e, f))
 
   covers-sound : Means (verdictOf Covers m) (answerOf Covers) ns
   unfolding holds agreeAll letterOf
   covers-sound =
-      two-sound Covers 6 7 (omega arith) (omega arith) (λ ts f. simp (f, and-false)) (λ ts f. simp (f, and-false)) (λ e f. simp (dim-back, e, f))
+      two-sound Covers 6 7 (omega arith) (omega arith) (λ ts f. simp (f, and-false)) (λ ts f. simp (f, and-false))
+      (λ e f. simp (dim-back, e, f))
 
   equal-sound : Means (verdictOf EqualTopo m) (answerOf EqualTopo) ns
   unfolding holds agreeAll letterOf

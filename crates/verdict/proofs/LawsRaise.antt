@@ -20,7 +20,7 @@ use Rattle.de9im.proofs.LawsForms.{matrix-shaped}
 use Rattle.de9im.proofs.LawsPatterns.{cells-at}
 use Rattle.star.specs.Completing.{any, missingLeft, startOf, walkOf, filledOf}
 use Rattle.star.specs.Label.{isNone}
-use Rattle.star.specs.Pouring.{pourNode, pourLabel, pourLabels}
+use Rattle.star.specs.Pouring.{pourNode, pourLabel, pourLabels, into}
 use Rattle.star.specs.Star.{dirsFrom}
 use Rattle.star.proofs.LawsPouring.{raise-cell}
 use Rattle.plan.specs.EndBytes.{readEnds}
@@ -102,5 +102,5 @@ raised-cell ns k j d h l =
     let t : (eqb (rowOf (known (posOf (k / 3)))) (j / 3) && eqb (rowOf (known (posOf (k % 3)))) (j % 3)) ≡ eqb j k =
     rw (row-back (k / 3) (omega arith), row-back (k % 3) (omega arith)) (same-place k j) in
     new ∙ raise-cell (matrixOf ns) (known (posOf (k / 3))) (known (posOf (k % 3))) d (matrix-shaped ns) (j / 3) (j % 3) hi hj ∙
-    ap (λ (x : ℕ). max x (cond (eqb (rowOf (known (posOf (k / 3)))) (j / 3) && eqb (rowOf (known (posOf (k % 3)))) (j % 3)) (dimNo d) 0)) old ∙
+    ap (λ (x : ℕ). max x (into (known (posOf (k / 3))) (known (posOf (k % 3))) d (j / 3) (j % 3))) old ∙
     ap (λ (u : Bool). max (min (getD ns j 0) 3) (cond u (dimNo d) 0)) t

@@ -123,7 +123,8 @@ last-cells : (n : ℕ) (ns ts : List ℕ) → n ≤ 9 → Above ns ts → ((k : 
 last-cells zero ns ts h a done =
     record { records = []; after = ns; accepted = none; few = omega arith; same = λ k l. done k (omega arith) }
 last-cells (suc n) ns ts h a done =
-    one-cell n ns ts (omega arith) a done (λ ms b d. last-cells n ms ts (omega arith) b d) (eqb (readAt ns (8 - n)) (getD ts (8 - n) 0)) refl
+    one-cell n ns ts (omega arith) a done (λ ms b d. last-cells n ms ts (omega arith) b d)
+    (eqb (readAt ns (8 - n)) (getD ts (8 - n) 0)) refl
 
 -- whatever is above is reached, by at most nine records
 pub reaches : (ns ts : List ℕ) → Above ns ts → Reached ns ts 9

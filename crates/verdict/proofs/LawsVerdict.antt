@@ -62,7 +62,8 @@ one-refusal (not-nine h) (bad-byte k e) = absurd (h k)
 one-refusal (bad-byte h e) (not-nine k) = absurd (k h)
 one-refusal (bad-byte h e) (bad-byte k f) = cc
 
-good-none : (good : ℕ → Bool) (i k : ℕ) (bs : List ℕ) → ((j : ℕ) → j < length bs → good (getD bs j 0) ≡ true) → firstBad good i bs ≡ At k → ⊥
+good-none : (good : ℕ → Bool) (i k : ℕ) (bs : List ℕ) → ((j : ℕ) → j < length bs → good (getD bs j 0) ≡ true) → firstBad good i bs ≡ At k
+    → ⊥
 unfolding firstBad
 good-none good i k [] g e = let z : _≡_ {A = ℕ} 0 1 = cc in omega arith
 good-none good i k (b ∷ bs) g e =

@@ -41,9 +41,10 @@ loop-again c =
     let k = b .loop .k in
     let w = c .before .before .before .before .w .given .0 .0 in
     let l : letterOf (getD p k 0) ≡ Good w = cc in
-    let d : dimNo (c .before .before .dimension .result) ≡ dimNo (dimOf (getD (s .t1) k 0)) = ap dimNo (c .before .before .dimension .ensures) in
-    let x : c .before .can-reach .result ≡ reachOf w (dimNo (dimOf (getD (s .t1) k 0))) = c .before .can-reach .ensures ∙ ap (reachOf w) d in
-    let y : c .is-firm .result ≡ firmOf w (dimNo (dimOf (getD (s .t1) k 0))) = c .is-firm .ensures ∙ ap (firmOf w) d in (
+    let n = dimNo (dimOf (getD (s .t1) k 0)) in
+    let d : dimNo (c .before .before .dimension .result) ≡ n = ap dimNo (c .before .before .dimension .ensures) in
+    let x : c .before .can-reach .result ≡ reachOf w n = c .before .can-reach .ensures ∙ ap (reachOf w) d in
+    let y : c .is-firm .result ≡ firmOf w n = c .is-firm .ensures ∙ ap (firmOf w) d in (
       omega arith,
       b .loop .inv .1 ∙ bad-next goodLetter p k (omega arith) (ap isLetter l),
       rw x (every-next reachOf p (s .t1) (omega arith) (b .loop .hope) k w (omega arith) l (b .loop .inv .2)),
