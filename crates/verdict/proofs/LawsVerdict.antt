@@ -1,0 +1,80 @@
+-- A matrix has one verdict, so each is given exactly when demand 3 says; and a verdict for good stays. Assumes nothing.
+use Prim.Native.Nat.{ℕ, suc, _<_}
+use mathlib.Core.Path.{_≡_, refl, sym, ap, subst, _∙_}
+use mathlib.Core.Bool.{Bool, true, false}
+use mathlib.Core.List.{List, [], _∷_}
+use native.Mathlib.Omega.{arith}
+use lib.ListN.{length, getD}
+use Rattle.plan.specs.Run.{Accepts, Run, none, then}
+use Rattle.de9im.specs.declared.refusal.Refusal.{Refusal}
+use Rattle.de9im.specs.declared.refusal.Refusal.the-variants.{NotNineBytes, BadByte}
+use Rattle.de9im.specs.declared.refusal.Spot.{Spot}
+use Rattle.de9im.specs.declared.refusal.Spot.the-variants.{At}
+use Rattle.de9im.specs.Letters.{letterOf}
+use Rattle.de9im.specs.Patterns.{isLetter, WhollyGood}
+use Rattle.de9im.specs.Text.{firstBad}
+use Rattle.verdict.specs.declared.Verdict.{Verdict}
+use Rattle.verdict.specs.declared.Verdict.the-variants.{YesForGood, NoForGood, Open}
+use Rattle.verdict.specs.declared.pattern.Judged.{Judged}
+use Rattle.verdict.specs.declared.pattern.Judged.the-variants.{Is, Refused}
+use Rattle.verdict.specs.Judges.{goodLetter, Refuses, not-nine, bad-byte, Given, Judges}
+use Rattle.verdict.specs.Means.{Always, Sometimes, Both, Means, matchOf}
+use Rattle.verdict.proofs.LawsBool.{not-both}
+
+module _ (answer : List ℕ → Bool) (ns : List ℕ) where
+  -- what every run ends in, none can end otherwise in
+  yes-never : {A : Type 0} → Always answer true ns → Sometimes answer false ns → A
+  yes-never f s = not-both (f (s .records) (s .after) (s .accepted)) (s .says)
+
+  no-never : {A : Type 0} → Always answer false ns → Sometimes answer true ns → A
+  no-never f s = not-both (s .says) (f (s .records) (s .after) (s .accepted))
+
+  pub one-verdict : (v w : Verdict) → Means v answer ns → Means w answer ns → v ≡ w
+  one-verdict YesForGood YesForGood f g = refl
+  one-verdict YesForGood NoForGood f g = not-both (f [] ns none) (g [] ns none)
+  one-verdict YesForGood Open f g = yes-never f (g .ends-no)
+  one-verdict NoForGood YesForGood f g = not-both (g [] ns none) (f [] ns none)
+  one-verdict NoForGood NoForGood f g = refl
+  one-verdict NoForGood Open f g = no-never f (g .ends-yes)
+  one-verdict Open YesForGood f g = yes-never g (f .ends-no)
+  one-verdict Open NoForGood f g = no-never g (f .ends-yes)
+  one-verdict Open Open f g = refl
+
+  -- given exactly when
+  pub exactly-when : (v w : Verdict) → Means v answer ns → (v ≡ w → Means w answer ns) × (Means w answer ns → v ≡ w)
+  exactly-when v w f = (λ e. subst (λ (x : Verdict). Means x answer ns) e f, one-verdict v w f)
+
+-- what every run ends in, every run after one more record ends in
+pub always-stays : (answer : List ℕ → Bool) (b : Bool) {ns s ms : List ℕ} → Accepts ns s ms → Always answer b ns → Always answer b ms
+always-stays answer b {s = s} a f rs os r = f (s ∷ rs) os (then a r)
+
+-- so a verdict for good stays after any accepted record
+pub stays : (answer : List ℕ → Bool) (v : Verdict) (w : Verdict) {ns s ms : List ℕ} → (v ≡ Open → ⊥) → Accepts ns s ms → Means v answer ns
+    → Means w answer ms → v ≡ w
+stays answer YesForGood w {ms = ms} h a f g = one-verdict answer ms YesForGood w (always-stays answer true a f) g
+stays answer NoForGood w {ms = ms} h a f g = one-verdict answer ms NoForGood w (always-stays answer false a f) g
+stays answer Open w h a f g = absurd (h refl)
+
+-- a pattern has one answer: one refusal, or one verdict
+one-refusal : {p : List ℕ} {r q : Refusal} → Refuses p r → Refuses p q → r ≡ q
+one-refusal (not-nine h) (not-nine k) = refl
+one-refusal (not-nine h) (bad-byte k e) = absurd (h k)
+one-refusal (bad-byte h e) (not-nine k) = absurd (k h)
+one-refusal (bad-byte h e) (bad-byte k f) = cc
+
+good-none : (good : ℕ → Bool) (i k : ℕ) (bs : List ℕ) → ((j : ℕ) → j < length bs → good (getD bs j 0) ≡ true) → firstBad good i bs ≡ At k
+    → ⊥
+unfolding firstBad
+good-none good i k [] g e = let z : _≡_ {A = ℕ} 0 1 = cc in omega arith
+good-none good i k (b ∷ bs) g e =
+    good-none good (suc i) k bs (λ j h. g (suc j) (omega arith)) (rw (g 0 (omega arith)) at e)
+
+not-refused : {A : Type 0} {p : List ℕ} {r : Refusal} → WhollyGood p → Refuses p r → A
+not-refused g (not-nine h) = absurd (h (g .nine))
+not-refused {p = p} g (bad-byte {k = k} h e) = absurd (good-none goodLetter 0 k p (λ j l. g .letters j (omega arith)) e)
+
+pub one-judged : (p ns : List ℕ) (r q : Judged) → Judges r p ns → Judges q p ns → r ≡ q
+one-judged p ns (Is v) (Is w) f g = ap Is (one-verdict (matchOf p) ns v w (f .means) (g .means))
+one-judged p ns (Is v) (Refused q) f g = not-refused (f .good) g
+one-judged p ns (Refused r) (Is w) f g = not-refused (g .good) f
+one-judged p ns (Refused r) (Refused q) f g = ap Refused (one-refusal f g)
