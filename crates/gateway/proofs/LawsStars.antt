@@ -15,7 +15,9 @@ use Rattle.de9im.specs.declared.refusal.Refusal.the-variants as R
 use Rattle.star.specs.declared.label.Label.{Label}
 use Rattle.star.specs.declared.«edge_end».EdgeEnd.{EdgeEnd}
 use Rattle.star.specs.declared.«edge_end».Checked.the-variants.{Fine}
-use Rattle.star.specs.Calls.{bundledOf, starCall, starOf, completedStar}
+use Rattle.star.specs.declared.«edge_end_bundle_star».Labeled.{Labeled}
+use Rattle.star.specs.declared.«edge_end_bundle_star».StarAnswer.the-variants.{Completed}
+use Rattle.star.specs.Calls.{refusedStar, bundledOf, starCall, starOf, completedStar}
 use Rattle.star.specs.Completing.{missingLeft, completedOf}
 use Rattle.star.specs.Ends.{checkedOf, Sound}
 use Rattle.star.specs.Label.{blank, noSides, padded}
@@ -23,7 +25,7 @@ use Rattle.star.specs.Star.{joinedOf}
 use Rattle.star.proofs.LawsFew.{joined-few, completed-length}
 use Rattle.star.proofs.LawsLists.{padTo, pad-step}
 use Rattle.plan.specs.EndBytes.{Ends, good, bad, readEnds, endsCall}
-use Rattle.plan.proofs.LawsRecord.{bad-good, read-fine, read-sound, answeredStar}
+use Rattle.plan.proofs.LawsRecord.{bad-good, read-fine, read-sound}
 use Rattle.gateway.specs.Stars.{sidesByte, labelByte, labelBytes, table, starOn}
 
 -- bytes written behind one another into an array of zeros
@@ -143,6 +145,10 @@ module _ (ends : List EdgeEnd) (n : ℕ) (h : n ≤ length ends) where
       → starCall (take n ends) (length (take n ends)) p q ≡ starOf (take n ends) p q
   unfolding starCall
   star-front p q f = rw (checked-front, f, take-length (take n ends)) refl
+
+-- what a star answers: refusal 9, or its labels in an array
+abbrev answeredStar : Bool → List Label → Labeled
+answeredStar miss ls = cond miss (refusedStar R.MissingLeft) (record { answer = Completed; labels = padded ls; count = length ls })
 
 tidy-by : (miss : Bool) (ls : List Label) → length ls ≤ 32
     → (answeredStar miss ls .count ≤ 32)

@@ -1,24 +1,26 @@
 -- Laws of records: what was read is sound for the star, and what the star answers. Assumes nothing.
 use Prim.Native.Nat.{ℕ, zero, suc, _+_, _-_, _≤_}
-use mathlib.Core.Path.{_≡_, refl, sym}
+use mathlib.Core.Path.{_≡_, refl, sym, ap, _∙_}
 use mathlib.Core.Bool.{Bool, true, false, cond, not, _&&_, _||_}
 use mathlib.Core.List.{List, [], _∷_}
 use native.Mathlib.Omega.{arith}
 use borrow.Author.Tests.{le-ltb}
 use lib.Dec.{ltb}
-use lib.ListN.{length, take, replicate}
-use lib.Seq.{take-append-seam}
+use lib.ListN.{length, take}
 use Rattle.de9im.specs.declared.refusal.Refusal.{Refusal}
 use Rattle.de9im.specs.declared.refusal.Refusal.the-variants.{LabelKind, Direction, MissingLeft}
 use Rattle.star.specs.declared.label.Label.{Label}
 use Rattle.star.specs.declared.«edge_end».Dir.{Dir}
 use Rattle.star.specs.declared.«edge_end».EdgeEnd.{EdgeEnd}
 use Rattle.star.specs.declared.«edge_end».Checked.the-variants.{Fine}
-use Rattle.star.specs.declared.«edge_end_bundle_star».Labeled.{Labeled}
 use Rattle.star.specs.declared.«edge_end_bundle_star».StarAnswer.the-variants as W
-use Rattle.star.specs.Calls.{refusedStar}
+use Rattle.star.specs.declared.pouring.Node.{Node}
+use Rattle.star.specs.declared.pouring.PouredStar.{PouredStar}
+use Rattle.star.specs.Calls.{completedStar, pouredStar}
+use Rattle.star.specs.Completing.{missingLeft}
+use Rattle.star.specs.Star.{joinedOf}
 use Rattle.star.specs.Ends.{badDir, lineWithSide, faultOf, firstFault, checkedOf, Sound}
-use Rattle.star.specs.Label.{blank, sidesNone, padded}
+use Rattle.star.specs.Label.{sidesNone}
 use Rattle.star.proofs.LawsEnds.{checked-sound}
 use Rattle.plan.specs.declared.«label_bytes».SidesRead.{SidesRead}
 use Rattle.plan.specs.declared.«label_bytes».SidesRead.the-variants as S
@@ -26,6 +28,8 @@ use Rattle.plan.specs.declared.«label_bytes».LabelRead.{LabelRead}
 use Rattle.plan.specs.declared.«label_bytes».LabelRead.the-variants as L
 use Rattle.plan.specs.declared.«end_bytes».EndRead.{EndRead}
 use Rattle.plan.specs.declared.«end_bytes».EndRead.the-variants as E
+use Rattle.plan.specs.declared.Answer.the-variants.{Used}
+use Rattle.plan.specs.Record.{refusedAs, withEnds}
 use Rattle.plan.specs.Words.{byteAt}
 use Rattle.plan.specs.LabelBytes.{goodCodes, sidesAt, labelAt}
 use Rattle.plan.specs.EndBytes.{dirAt, endWith, endAt, Ends, good, bad, thenEnds, readEnds}
@@ -102,30 +106,26 @@ module _ (n : ℕ) (s : List ℕ) (at : ℕ) (ends : List EdgeEnd) (h : n ≤ 32
   pub read-sound : length ends ≡ 32 → Sound ends n
   read-sound l = checked-sound ends n l read-fine
 
--- what a star answers: refusal 9, or its labels in an array
-abbrev pub answeredStar : Bool → List Label → Labeled
-answeredStar miss ls = cond miss (refusedStar MissingLeft) (record { answer = W.Completed; labels = padded ls; count = length ls })
-
 completed-refused : {A : Type 0} {r : Refusal} → W.Completed ≡ W.Refused r → A
 completed-refused q = absurd (let z : _≡_ {A = ℕ} 0 1 = cc in omega arith)
 
--- a completed star
-pub record Whole (miss : Bool) (ls : List Label) (s : Labeled) : Type 0 where
-  pub none-missing : miss ≡ false
-  pub few : s .count ≤ 32
-  pub labels : take (s .count) (s .labels) ≡ ls
+-- what a poured star answers: refusal 9, or the raised numbers
+module _ (ns : List ℕ) (used : ℕ) (n : Node) (es : List EdgeEnd) (d : PouredStar) (e : d ≡ pouredStar ns n es) where
+  pub poured-used : d .answer ≡ W.Completed → record { answer = Used used; cells = d .cells } ≡ withEnds ns used n (good es)
+  unfolding pouredStar completedStar
+  poured-used q = go (missingLeft (joinedOf es)) refl
+    where
+      go : (t : Bool) → missingLeft (joinedOf es) ≡ t → record { answer = Used used; cells = d .cells } ≡ withEnds ns used n (good es)
+      go true m = completed-refused {r = MissingLeft} (sym q ∙ ap (λ (x : PouredStar). x .answer) e ∙ rw m refl)
+      go false m = rw (e, m) refl
 
-pub whole-star : (miss : Bool) (ls : List Label) → length ls ≤ 32 → answeredStar miss ls .answer ≡ W.Completed
-    → Whole miss ls (answeredStar miss ls)
-whole-star true ls l q = completed-refused (sym q)
-whole-star false ls l q =
-    record {
-      none-missing = refl;
-      few = l;
-      labels = take-append-seam ls (replicate (32 - length ls) blank);
-    }
-
-pub refused-star : (miss : Bool) (ls : List Label) (r : Refusal) → answeredStar miss ls .answer ≡ W.Refused r
-    → (miss ≡ true) × (MissingLeft ≡ r)
-refused-star true ls r q = (refl, cc)
-refused-star false ls r q = completed-refused q
+  pub poured-refused : (r : Refusal) → d .answer ≡ W.Refused r → refusedAs r ns ≡ withEnds ns used n (good es)
+  unfolding pouredStar completedStar
+  poured-refused r q = go (missingLeft (joinedOf es)) refl
+    where
+      go : (t : Bool) → missingLeft (joinedOf es) ≡ t → refusedAs r ns ≡ withEnds ns used n (good es)
+      go true m =
+          let f : W.Refused MissingLeft ≡ W.Refused r = sym (ap (λ (x : PouredStar). x .answer) e ∙ rw m refl) ∙ q in
+          let g : MissingLeft ≡ r = cc in
+          rw (m, g) refl
+      go false m = completed-refused (sym (ap (λ (x : PouredStar). x .answer) e ∙ rw m refl) ∙ q)

@@ -22,7 +22,7 @@ use Rattle.star.proofs.LawsPouring.{raise-cell, raise-shape, label-cell, labels
 use Rattle.plan.specs.declared.Answer.the-variants.{Used, Refused}
 use Rattle.plan.specs.declared.«label_bytes».LabelRead.{LabelRead}
 use Rattle.plan.specs.declared.«label_bytes».LabelRead.the-variants as L
-use Rattle.plan.specs.declared.record.Node.{Node}
+use Rattle.star.specs.declared.pouring.Node.{Node}
 use Rattle.plan.specs.declared.record.NodeRead.{NodeRead}
 use Rattle.plan.specs.declared.record.NodeRead.the-variants as N
 use Rattle.plan.specs.declared.record.RecordAnswer.{RecordAnswer}
@@ -63,17 +63,17 @@ label-rises ns l i j h k =
       label-cell l (matrixOf ns) (matrix-shaped ns) i j h k,
     )
 
-node-rises : (ns : List ℕ) (n : Node) (ls : List Label) → Rises ns (cellsOf (pourLabels (pourNode (matrixOf ns) (n .a) (n .b)) ls))
+node-rises : (ns : List ℕ) (n : Node) (ls : List Label) → Rises ns (cellsOf (pourLabels (pourNode (matrixOf ns) (n .«on_a») (n .«on_b»)) ls))
 unfolding pourNode
 node-rises ns n ls i j h k =
-    let m = pourNode (matrixOf ns) (n .a) (n .b) in
+    let m = pourNode (matrixOf ns) (n .«on_a») (n .«on_b») in
     let s = matrix-shaped ns in
     omega (
       arith,
       given-cell ns i j h k,
       cells-at (pourLabels m ls) i j h k,
-      raise-cell (matrixOf ns) (n .a) (n .b) ZeroDimensional s i j h k,
-      labels-raise m ls (raise-shape (matrixOf ns) (n .a) (n .b) ZeroDimensional s) i j h k,
+      raise-cell (matrixOf ns) (n .«on_a») (n .«on_b») ZeroDimensional s i j h k,
+      labels-raise m ls (raise-shape (matrixOf ns) (n .«on_a») (n .«on_b») ZeroDimensional s) i j h k,
     )
 
 -- an answer that was accepted
@@ -92,7 +92,7 @@ passed false r ns rest u ms e = e
 
 -- an accepted record poured one label, or a node and its star's labels: what holds of both holds of every result
 module _ (ns : List ℕ) (P : List ℕ → Type 0) (edge : (l : Label) → P (cellsOf (pourLabel (matrixOf ns) l)))
-    (node : (n : Node) (ls : List Label) → P (cellsOf (pourLabels (pourNode (matrixOf ns) (n .a) (n .b)) ls)))
+    (node : (n : Node) (ls : List Label) → P (cellsOf (pourLabels (pourNode (matrixOf ns) (n .«on_a») (n .«on_b»)) ls)))
   where
     poured-as : (ms : List ℕ) (m : Matrix) (u v : ℕ) → acceptedAs v m ≡ usedAs u ms → P (cellsOf m) → P ms
     poured-as ms m u v e r = subst (λ (l : List ℕ). P l) (ap (λ (x : RecordAnswer). x .cells) e) r
@@ -104,8 +104,8 @@ module _ (ns : List ℕ) (P : List ℕ → Type 0) (edge : (l : Label) → P (ce
     by-ends : (ms : List ℕ) (u v : ℕ) (n : Node) (es : ReadEnds) → withEnds ns v n es ≡ usedAs u ms → P ms
     by-ends ms u v n (bad r) e = not-accepted r ns ms u e
     by-ends ms u v n (good es) e =
-        let ls = completedOf (n .p) (n .q) (joinedOf es) in
-        let m = pourLabels (pourNode (matrixOf ns) (n .a) (n .b)) ls in
+        let ls = completedOf (n .«area_a») (n .«area_b») (joinedOf es) in
+        let m = pourLabels (pourNode (matrixOf ns) (n .«on_a») (n .«on_b»)) ls in
         poured-as ms m u v (passed (missingLeft (joinedOf es)) MissingLeft ns (acceptedAs v m) u ms e) (node n ls)
 
     by-body : (ms s : List ℕ) (u : ℕ) (n : NodeRead) → withNode ns s n ≡ usedAs u ms → P ms

@@ -6,4 +6,5 @@ pub mod LawsReading
 pub mod LawsEnds
 pub mod LawsRecord
 pub mod LawsRecordOrder
+pub mod LawsAfter
 pub mod LawsRun

@@ -24,7 +24,7 @@ use Rattle.de9im.proofs.LawsPatterns.{cells-at}
 use Rattle.star.specs.declared.label.Label.{Label}
 use Rattle.star.specs.Pouring.{pourNode, pourLabel, pourLabels, into, labelInto, labelsInto}
 use Rattle.star.proofs.LawsPouring.{raise-cell, raise-shape, label-cell, labels-cell}
-use Rattle.plan.specs.declared.record.Node.{Node}
+use Rattle.star.specs.declared.pouring.Node.{Node}
 use Rattle.plan.specs.Run.{Accepts, Run, none, then}
 use Rattle.plan.proofs.LawsRun.{given-cell, accepted-by, run-rises}
 use Rattle.verdict.specs.declared.Verdict.the-variants.{Open}
@@ -112,20 +112,20 @@ module _ (ns : List ℕ) where
       (small i j h k) (label-none l i j)) in
       omega arith
 
-  node-adds : (n : Node) (ls : List Label) → AddsOne (cellsOf (pourLabels (pourNode (matrixOf ns) (n .a) (n .b)) ls))
+  node-adds : (n : Node) (ls : List Label) → AddsOne (cellsOf (pourLabels (pourNode (matrixOf ns) (n .«on_a») (n .«on_b»)) ls))
   unfolding pourNode
   node-adds n ls small =
-      let m = pourNode (matrixOf ns) (n .a) (n .b) in
+      let m = pourNode (matrixOf ns) (n .«on_a») (n .«on_b») in
       let ms = cellsOf (pourLabels m ls) in
-      let x = into (n .a) (n .b) ZeroDimensional in
+      let x = into (n .«on_a») (n .«on_b») ZeroDimensional in
       let t : sum (readIn ms) ≤ sum (readIn ns) + sum x = adds (readIn ms) (readIn ns) x (λ i j h k.
       only-node (getD ms (3 * i + j) 0) (readIn ns i j) (x i j) (labelsInto ls i j)
       (cells-at (pourLabels m ls) i j h k ∙
-      labels-cell m ls (raise-shape (matrixOf ns) (n .a) (n .b) ZeroDimensional (matrix-shaped ns)) i j h k ∙
-      ap (λ (y : ℕ). max y (labelsInto ls i j)) (raise-cell (matrixOf ns) (n .a) (n .b) ZeroDimensional (matrix-shaped ns) i j h k) ∙
+      labels-cell m ls (raise-shape (matrixOf ns) (n .«on_a») (n .«on_b») ZeroDimensional (matrix-shaped ns)) i j h k ∙
+      ap (λ (y : ℕ). max y (labelsInto ls i j)) (raise-cell (matrixOf ns) (n .«on_a») (n .«on_b») ZeroDimensional (matrix-shaped ns) i j h k) ∙
       ap (λ (y : ℕ). max (max y (x i j)) (labelsInto ls i j)) (given-cell ns i j h k))
       (small i j h k) (labels-none ls i j)) in
-      one (sum (readIn ms)) (sum (readIn ns)) (sum x) t (node-one (n .a) (n .b))
+      one (sum (readIn ms)) (sum (readIn ns)) (sum x) t (node-one (n .«on_a») (n .«on_b»))
     where
       one : (c old y : ℕ) → c ≤ old + y → y ≤ 1 → c ≤ old + 1
       one c old y h k = omega arith
