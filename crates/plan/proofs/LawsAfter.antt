@@ -120,7 +120,8 @@ module _ (n : ℕ) (s t : List ℕ) (same : Alike n s t) where
     kind-alike : 2 ≤ halfAt s 0 → byKind ns s ≡ byKind ns t
     kind-alike h = rw (same 3 (omega arith), node-alike, edge-alike)
 
-    pub record-alike : 2 ≤ length s → 2 ≤ length t → 2 + halfAt s 0 ≤ length s → 2 + halfAt t 0 ≤ length t → recordOf ns s ≡ recordOf ns t
+    pub record-alike : 2 ≤ length s → 2 ≤ length t → 2 + halfAt s 0 ≤ length s → 2 + halfAt t 0 ≤ length t
+        → recordOf ns s ≡ recordOf ns t
     record-alike l m u v = by (ltb (halfAt s 0) 2) refl
       where
         kind : (b d : Bool) → 2 ≤ halfAt s 0 → byteAt s 2 ≡ 1 → eqb (byteAt s 3) 1 ≡ b → eqb (byteAt s 3) 2 ≡ d → recordOf ns s ≡ recordOf ns t
