@@ -1,0 +1,3 @@
+-- One law a shape of walk, and facts about the definitions of specs/.
+pub mod WalkChange
+pub mod WalkArguments
