@@ -1,5 +1,11 @@
--- What follows the lent matrix in the thin operations: a change of a cell, and a label. Both are structs that own nothing. Assumes nothing.
-use mathlib.Core.List.{[], _∷_}
+-- The plain arguments of the operations: a change of a cell, a label, nine numbers. They own nothing. Assumes nothing.
+use Prim.Native.Nat.{ℕ}
+use mathlib.Core.List.{List, map}
+use mir.Syntax.{w8, tyArray, tyInt}
+use mir.Val.{Val, vint}
+use denote.Plain.{uint-vals, uint-tells, uint-makes, uint-lawful}
+use denote.Array.{Array, arrayVal, array-tells, array-lawful, array-makes}
+use denote.Builtin.{u8}
 use denote.Struct.Declared.{Declared, fields, row, shape}
 use denote.Struct.Struct.{Plains, layout}
 use denote.Struct.Laws as LL
@@ -24,7 +30,7 @@ abbrev pub structLaws : (X : Declared) → LL.Laws X → Plains (fields X) → L
 structLaws X LX PX = record {
   val = LL.val X LX;
   tells = LL.tells X LX;
-  makes = λ M 𝓤 H A. LL.makes X PX 𝓤 H A;
+  makes = λ M 𝓤 H A W. LL.makes X PX 𝓤 H A;
   lawful = λ M 𝓤 H A W. record { typed = LL.lawful X LX 𝓤 H A W .typed };
 }
 
@@ -39,3 +45,21 @@ label = structOf L.the-type
 
 abbrev pub labelLaws : Laws label
 labelLaws = structLaws L.the-type L′.the-laws L′.the-plain
+
+abbrev pub cells : Plain
+cells = record {
+  D = List ℕ;
+  layout = tyArray (tyInt w8) 9;
+  written = Array u8 9 .written;
+  reaches = Array u8 9 .reaches;
+  own = Array u8 9 .own;
+  coded = Array u8 9 .coded;
+}
+
+abbrev pub cellsLaws : Laws cells
+cellsLaws = record {
+  val = λ ns. arrayVal (map (λ n. vint w8 n) ns);
+  tells = array-tells u8 (uint-vals w8) (uint-tells w8) 9;
+  makes = λ M 𝓤 H A W. array-makes 𝓤 H A W u8 (uint-makes 𝓤 H A W w8) 9;
+  lawful = λ M 𝓤 H A W. record { typed = array-lawful 𝓤 H A W u8 (uint-lawful 𝓤 H A W w8) 9 .typed };
+}

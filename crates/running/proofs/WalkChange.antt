@@ -63,7 +63,7 @@ rowOf X = record {
 pub record Laws (X : Plain) : Type 2 where
   pub val : X .D → Val
   pub tells : Tells (rowOf X) (Is (rowOf X)) (λ x. val x ∷ [])
-  pub makes : (M : Type 1) (𝓤 : URA M) (H : Heap 𝓤) (A : Atoms 𝓤) → Makes 𝓤 H A (rowOf X) (Is (rowOf X))
+  pub makes : (M : Type 1) (𝓤 : URA M) (H : Heap 𝓤) (A : Atoms 𝓤) → Given 𝓤 H A → Makes 𝓤 H A (rowOf X) (Is (rowOf X))
   pub lawful : (M : Type 1) (𝓤 : URA M) (H : Heap 𝓤) (A : Atoms 𝓤) → Given 𝓤 H A → Lawful 𝓤 H A (rowOf X)
 
 -- the contract of `fn f(m: &mut Running, x: X)`, and that of the `fn g(m: Running, x: X) -> Running` that it calls
@@ -162,7 +162,7 @@ module _ (X : Plain) (LX : Laws X) (spec : Running → X .D → Running) (#g : N
       suffices ! _ (ends-at 𝓤 H A (f-ended X) (stayed X) (f-clauses X spec 𝓤) W (((κ, tt), (q, tt), tt, x, at), tt) vunit tt
       (r, (tt, tt)) (tt, (tt, tt))) $
       says ! e $ nothing ! $ move ! (3 ∷ 0 ∷ []) $ join ! $ frame ! $ feqI ! (List Val) (vptr b o ∷ []) (vptr b o ∷ []) refl $ fjoin3 ! $
-      nothing ! $ owned ! (rowOf X) (Is (rowOf X)) (LX .makes M 𝓤 H A) l _ il $ fjoin ! $ move ! (1 ∷ 0 ∷ []) $ fjoin ! $
+      nothing ! $ owned ! (rowOf X) (Is (rowOf X)) (LX .makes M 𝓤 H A W) l _ il $ fjoin ! $ move ! (1 ∷ 0 ∷ []) $ fjoin ! $
       feqI ! (List Val) (vunit ∷ []) (vunit ∷ []) refl $ move ! (1 ∷ 0 ∷ []) $ done !
 
   abbrev to-g : G X spec #g 𝓤 H A .Ghost
@@ -170,7 +170,7 @@ module _ (X : Plain) (LX : Laws X) (spec : Running → X .D → Running) (#g : N
 
   goes-g : ent 𝓤 (sem 𝓤 H A (T.the-row .own h (vals h))) (G X spec #g 𝓤 H A .pre to-g)
   goes-g =
-      qed W (‵ (T.the-row .own h (vals h)) ∷ []) ∵ nothing ! $ owned ! (rowOf X) (Is (rowOf X)) (LX .makes M 𝓤 H A) l _ il $ join ! $
+      qed W (‵ (T.the-row .own h (vals h)) ∷ []) ∵ nothing ! $ owned ! (rowOf X) (Is (rowOf X)) (LX .makes M 𝓤 H A W) l _ il $ join ! $
       move ! (1 ∷ 0 ∷ []) $ join ! $ nothing ! $ join ! $ frame ! $ done !
 
   -- a value of the matrix is a value of its MIR type
