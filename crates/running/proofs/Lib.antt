@@ -2,3 +2,4 @@
 pub mod WalkChange
 pub mod WalkArguments
 pub mod WalkLends
+pub mod LawsRunning

@@ -2,7 +2,7 @@
 use Prim.Native.Nat.{ℕ}
 use mathlib.Core.List.{List, map}
 use mir.Syntax.{w8, tyArray, tyInt}
-use mir.Val.{Val, vint}
+use mir.Val.{vint}
 use denote.Plain.{uint-vals, uint-tells, uint-makes, uint-lawful}
 use denote.Array.{Array, arrayVal, array-tells, array-lawful, array-makes}
 use denote.Builtin.{u8}

@@ -1,4 +1,5 @@
--- A running matrix in a local of the function, lent to a thin operation for a lifetime that is made for the call, and back after it: a step of
+-- A running matrix in a local of the function, lent to a thin operation for a lifetime that is made for the call, and back after it: a
+-- step of
 -- a walk by hand for each shape of operation. Assumes nothing.
 use mathlib.Core.Path.{_≡_, refl, sym, ap, subst}
 use Prim.Native.Nat.{ℕ}
@@ -14,7 +15,8 @@ use prog.Routine.{Routine}
 use prog.Wp.{Heap, Env, Calls, Loops}
 use ghost.Atoms.{Atoms, sem}
 use contract.Monad.{Fun, fact}
-use types.Kit.{Given, Item, Post, Seq, Step, step, runs, lands, ‵, raw, _⊛_, some, later, _$_, _∵_, !, qed, move, keep, drop, use1, use2, use3, split, join, pick}
+use types.Kit.{Given, Item, Post, Seq, Step, step, runs, lands, ‵, raw, _⊛_, some, later, _$_, _∵_, !, qed, move, drop, use1, use2, use3}
+use types.Kit.{split, join, pick}
 use types.Kit.{rewrite, fsplit, fjoin, fpick, fpack, feqL, frame, await, done}
 use types.Run.{Opds}
 use types.SemTy.{Body}
@@ -27,7 +29,7 @@ use denote.Ref.{RefT, MutRef, now}
 use denote.Slice.{sliceVal, ShrSlice}
 use lib.ListN.{length}
 use denote.Lend.{lends-ref, ref-back}
-use denote.Steps.{only, owned, peeks, heard, nothing}
+use denote.Steps.{only, owned, heard, nothing}
 use denote.Struct.Steps.{spelt}
 use denote.Struct.Laws as LL
 use denote.Triple.Statement.{Contract, Triple}
@@ -63,7 +65,8 @@ module _ {M : Type 1} (𝓤 : URA M) (H : Heap 𝓤) (A : Atoms 𝓤) (W : Given
   unfolding partOf
   lies-out h =
       qed W (‵ (partAt (T.the-row) fullShare h b 0) ∷ []) ∵ fpick ! (λ vs. fsplit ! $
-      spelt ! (T.the-row) (Is (T.the-row)) (shows 𝓤 H A (T.the-row)) (λ r. valOf r ∷ []) (LL.tells T.the-type T′.the-laws) fullShare h vs b 0 $
+      spelt ! (T.the-row) (Is (T.the-row)) (shows 𝓤 H A (T.the-row)) (λ r. valOf r ∷ []) (LL.tells T.the-type T′.the-laws) fullShare h vs b
+      0 $
       use1 W (‵ (fat fullShare T′.mir b 0 (valOf h))) (W .laws .raw-at fullShare T′.mir b 0 (valOf h)) $ done !)
 
 -- the contract of `fn f(m: &mut Running, x: X)`, and what its triple binds outside, at a reference to the matrix in the block b
@@ -114,9 +117,11 @@ module _ {M : Type 1} {𝓤 : URA M} {H : Heap 𝓤} {A : Atoms 𝓤} {K : Type 
       move t (2 ∷ []) $ split t $ split t $ move t (2 ∷ []) $ feqL t (λ u.
       -- [the token; true; the last value; true; the lender's part; …]
       lft-end t tt $ move t (0 ∷ 4 ∷ 2 ∷ []) $
-      use3 W (later (‵ (partAt (T.the-row) fullShare (spec h l) b 0))) (ref-back 𝓤 H A W (T.the-row) (α ∷ []) δ (spec h l) b 0) $ await t tt $
+      use3 W (later (‵ (partAt (T.the-row) fullShare (spec h l) b 0))) (ref-back 𝓤 H A W (T.the-row) (α ∷ []) δ (spec h l) b 0) $
+      await t tt $
       move t (1 ∷ []) $ drop t $ move t (1 ∷ []) $ drop t $
-      subst (λ (z : Val). Seq K W (‵ (partAt (T.the-row) fullShare (spec h l) b 0) ∷ Γ) (lands C Λ E d z rest q)) (sym (ap only u)) k))))))))
+      subst (λ (z : Val). Seq K W (‵ (partAt (T.the-row) fullShare (spec h l) b 0) ∷ Γ) (lands C Λ E d z rest q)) (sym (ap only u))
+      k))))))))
 
 -- the contract of `pour_record`, and what its triple binds outside
 module _ {M : Type 1} (𝓤 : URA M) (H : Heap 𝓤) (A : Atoms 𝓤) (at-mem : Memory → SProp 𝓤) (run : Routine → Fun 𝓤) where

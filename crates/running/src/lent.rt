@@ -43,7 +43,8 @@ fn answer_of(t: Recorded) -> Answer
 
 // One record from the front of s. On a refusal the matrix is what it was, larger numbers included.
 pub fn pour_record(m: &mut Running, s: &[u8]) -> Answer
-    ensures { λ r. ⌜ (r ≡ recordIn (now (m .entry)) (now (s .entry)) .answer) × (now (m .exit) ≡ recordIn (now (m .entry)) (now (s .entry)) .kept) ⌝ }
+    ensures { λ r. ⌜ (r ≡ recordIn (now (m .entry)) (now (s .entry)) .answer)
+        × (now (m .exit) ≡ recordIn (now (m .entry)) (now (s .entry)) .kept) ⌝ }
 {
     let t = with_record(*m, s);
     *m = kept_of(t);

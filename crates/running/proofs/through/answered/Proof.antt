@@ -1,9 +1,6 @@
 use borrow.Author.Needs.{needs}
 use Rattle.running.proofs.through.answered.Statement.{statement}
 use Rattle.running.proofs.through.answered.Tie as tie
-use Rattle.running.proofs.through.answered.Reads as reads
-use Rattle.running.proofs.through.answered.Lts as lts
-use Rattle.running.proofs.kept.to_numbers.Reads as to-numbers-reads
 
 -- src/through.rt:23:22
 enum-known-a : tie.Need-enum-known-a
