@@ -19,10 +19,11 @@ ghost use Rattle.running.specs.Through.{answeredAs, throughOf};
 fn answered(given: Cells, a: Answer, m: Running) -> RecordAnswer
     ensures { λ r. ⌜ r ≡ answeredAs given a m ⌝ }
 {
+    let after = to_numbers(m);
     match a {
         Answer::Used(n) => RecordAnswer {
             answer: Answer::Used(n),
-            cells: to_numbers(m),
+            cells: after,
         },
         Answer::Refused(r) => RecordAnswer {
             answer: Answer::Refused(r),

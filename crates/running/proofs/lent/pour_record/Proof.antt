@@ -95,8 +95,8 @@ module _ {M : Type 1} (𝓤 : URA M) (H : Heap 𝓤) (A : Atoms 𝓤) (at-mem : 
       → ent 𝓤 (ensured 𝓤 H A g3.ended (g3.clauses 𝓤 H A at-mem run) tt (t, tt) tt r) (fact 𝓤 (r ≡ t .answer))
   said3 t r = exE 𝓤 _ (λ ws. snd∗ 𝓤 (sem 𝓤 H A (lasts g3.ended tt (t, tt) ws)) (fact 𝓤 (r ≡ t .answer)))
 
-module _ {M : Type 1} (𝓤 : URA M) (H : Heap 𝓤) (A : Atoms 𝓤) (W : Given 𝓤 H A) (at-mem : Memory → SProp 𝓤) (run : Routine
-    → Fun 𝓤) (κ κ₁ : Lft) (q q₁ : Share) (b o : ℕ) (γ : GName) (h : Running) (s : RefT (List ℕ)) where
+module _ {M : Type 1} (𝓤 : URA M) (H : Heap 𝓤) (A : Atoms 𝓤) (W : Given 𝓤 H A) (at-mem : Memory → SProp 𝓤) (run : Routine → Fun 𝓤)
+    (κ κ₁ : Lft) (q q₁ : Share) (b o : ℕ) (γ : GName) (h : Running) (s : RefT (List ℕ)) where
   abbrev sv : Val
   sv = sliceVal (s .ptr) (length (s .now))
 
