@@ -5,7 +5,7 @@ use mathlib.Core.Bool.{Bool, true, false, cond, _&&_, _||_}
 use mathlib.Core.List.{List, [], _∷_}
 use native.Mathlib.Omega.{arith}
 use borrow.Author.Tests.{eqb-true, eqb-false, eq-eqb, ne-eqb}
-use lib.Dec.{eqb}
+use lib.Dec.{eqb, ltb}
 use lib.ListN.{length, getD}
 use Rattle.de9im.specs.declared.dimensions.Dimensions.{Dimensions}
 use Rattle.de9im.specs.declared.dimensions.Dimensions.the-variants.{Empty, ZeroDimensional, OneDimensional, TwoDimensional}
@@ -28,6 +28,7 @@ use Rattle.plan.specs.LabelBytes.{sidesAt, labelAt}
 use Rattle.plan.specs.Record.{nodeOf, edgeOf, recordOf}
 use Rattle.plan.specs.Run.{Accepts}
 use Rattle.plan.proofs.LawsRun.{given-cell}
+use Rattle.verdict.specs.Means.{isBytes}
 
 -- a position's code
 abbrev codeOf : CoordPos → ℕ
@@ -51,6 +52,18 @@ raiser Empty p q = []
 raiser ZeroDimensional p q = 0 ∷ 7 ∷ 1 ∷ 1 ∷ codeOf p ∷ codeOf q ∷ 0 ∷ 0 ∷ 0 ∷ []
 raiser OneDimensional p q = 0 ∷ 9 ∷ 1 ∷ 2 ∷ 0 ∷ codeOf p ∷ 0 ∷ 0 ∷ codeOf q ∷ 0 ∷ 0 ∷ []
 raiser TwoDimensional p q = 0 ∷ 9 ∷ 1 ∷ 2 ∷ 1 ∷ 0 ∷ codeOf p ∷ 0 ∷ 0 ∷ codeOf q ∷ 0 ∷ []
+
+-- it is a string of bytes
+code-byte : (p : CoordPos) → ltb (codeOf p) 256 ≡ true
+code-byte Inside = refl
+code-byte OnBoundary = refl
+code-byte Outside = refl
+
+pub raiser-bytes : (p q : CoordPos) (d : Dimensions) → isBytes (raiser d p q) ≡ true
+raiser-bytes p q Empty = refl
+raiser-bytes p q ZeroDimensional = simp code-byte
+raiser-bytes p q OneDimensional = simp code-byte
+raiser-bytes p q TwoDimensional = simp code-byte
 
 -- it is accepted, and raises
 pub raiser-accepted : (ns : List ℕ) (p q : CoordPos) (d : Dimensions) → 0 < dimNo d
