@@ -378,6 +378,7 @@ predicate-sound Overlaps ns = overlaps-sound ns
 
 -- a matrix three by three has the table's verdict too
 verdict-back : (p : Predicate) (m : Matrix) → verdictOf p (matrixOf (cellsOf m)) ≡ verdictOf p m
+unfolding holds
 verdict-back Disjoint m = simp dim-back
 verdict-back Intersects m = simp dim-back
 verdict-back Within m = simp dim-back
