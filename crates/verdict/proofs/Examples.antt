@@ -1,8 +1,8 @@
 -- P7 and P8 of document 01: "P7: its verdict on FFFFFFFF2, refusal 11 at 2. P8: verdict of `FF*FF****` on FFFFFFFF2 open, on
 -- 0FFFFFFF2 no for good." Assumes nothing.
-use mathlib.Core.Path.{_≡_, refl}
+use mathlib.Core.Path.{refl}
 use mathlib.Core.Bool.{true, false}
-use mathlib.Core.List.{List, [], _∷_}
+use mathlib.Core.List.{[], _∷_}
 use Rattle.de9im.specs.declared.refusal.Refusal.the-variants.{BadByte}
 use Rattle.de9im.specs.Bytes.{bytes}
 use Rattle.de9im.specs.Cells.{cellsOf}

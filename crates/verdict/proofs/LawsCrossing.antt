@@ -1,10 +1,10 @@
 -- Crosses and overlaps by the numbers a and b, the largest of II, IB, IE and of II, BI, EI. Assumes nothing.
-use Prim.Native.Nat.{ℕ, suc, _≤_, _<_, max}
+use Prim.Native.Nat.{_≤_, _<_, max}
 use mathlib.Core.Path.{_≡_, refl, sym}
 use mathlib.Core.Bool.{Bool, true, false, _||_, and-false}
 use native.Mathlib.Omega.{arith}
 use borrow.Author.Tests.{lt-ltb, le-ltb, eq-eqb, ne-eqb, eqb-true, eqb-false}
-use lib.Dec.{eqb, ltb}
+use lib.Dec.{eqb}
 use Rattle.de9im.specs.declared.«coordinate_position».CoordPos.the-variants.{Inside as I, Outside as E}
 use Rattle.de9im.specs.declared.predicates.Predicate.the-variants.{Crosses, Overlaps}
 use Rattle.de9im.specs.declared.dimensions.Dimensions.{Dimensions}

@@ -1,12 +1,12 @@
 -- One record raises one cell to one dimension, and leaves every other cell: shown by its bytes. Assumes nothing.
-use Prim.Native.Nat.{ℕ, zero, suc, _+_, _*_, _/_, _%_, _≤_, _<_, min, max}
+use Prim.Native.Nat.{ℕ, zero, suc, _+_, _*_, _/_, _%_, _<_, min, max}
 use mathlib.Core.Path.{_≡_, refl, sym, ap, _∙_}
-use mathlib.Core.Bool.{Bool, true, false, cond, _&&_, _||_}
+use mathlib.Core.Bool.{Bool, true, false, cond, _&&_}
 use mathlib.Core.List.{List, [], _∷_}
 use native.Mathlib.Omega.{arith}
 use borrow.Author.Tests.{eqb-true, eqb-false, eq-eqb, ne-eqb}
 use lib.Dec.{eqb, ltb}
-use lib.ListN.{length, getD}
+use lib.ListN.{getD}
 use Rattle.de9im.specs.declared.dimensions.Dimensions.{Dimensions}
 use Rattle.de9im.specs.declared.dimensions.Dimensions.the-variants.{Empty, ZeroDimensional, OneDimensional, TwoDimensional}
 use Rattle.de9im.specs.declared.«coordinate_position».Coded.the-variants.{Is}
@@ -14,7 +14,7 @@ use Rattle.de9im.specs.declared.«coordinate_position».CoordPos.{CoordPos}
 use Rattle.de9im.specs.declared.«coordinate_position».CoordPos.the-variants.{Inside, OnBoundary, Outside}
 use Rattle.de9im.specs.Cells.{cellsOf, matrixOf}
 use Rattle.de9im.specs.Dimension.{dimNo}
-use Rattle.de9im.specs.Matrix.{cellAt, atLeastOf}
+use Rattle.de9im.specs.Matrix.{atLeastOf}
 use Rattle.de9im.specs.Position.{known, rowOf, codedOf}
 use Rattle.de9im.proofs.LawsForms.{matrix-shaped}
 use Rattle.de9im.proofs.LawsPatterns.{cells-at}

@@ -1,24 +1,21 @@
 -- A matrix has one verdict, so each is given exactly when demand 3 says; and a verdict for good stays. Assumes nothing.
 use Prim.Native.Nat.{ℕ, suc, _<_}
-use mathlib.Core.Path.{_≡_, refl, sym, ap, subst, _∙_}
+use mathlib.Core.Path.{_≡_, refl, ap, subst}
 use mathlib.Core.Bool.{Bool, true, false}
 use mathlib.Core.List.{List, [], _∷_}
 use native.Mathlib.Omega.{arith}
 use lib.ListN.{length, getD}
-use Rattle.plan.specs.Run.{Accepts, Run, none, then}
+use Rattle.plan.specs.Run.{Accepts, none, then}
 use Rattle.de9im.specs.declared.refusal.Refusal.{Refusal}
-use Rattle.de9im.specs.declared.refusal.Refusal.the-variants.{NotNineBytes, BadByte}
-use Rattle.de9im.specs.declared.refusal.Spot.{Spot}
 use Rattle.de9im.specs.declared.refusal.Spot.the-variants.{At}
-use Rattle.de9im.specs.Letters.{letterOf}
-use Rattle.de9im.specs.Patterns.{isLetter, WhollyGood}
+use Rattle.de9im.specs.Patterns.{WhollyGood}
 use Rattle.de9im.specs.Text.{firstBad}
 use Rattle.verdict.specs.declared.Verdict.{Verdict}
 use Rattle.verdict.specs.declared.Verdict.the-variants.{YesForGood, NoForGood, Open}
 use Rattle.verdict.specs.declared.pattern.Judged.{Judged}
 use Rattle.verdict.specs.declared.pattern.Judged.the-variants.{Is, Refused}
-use Rattle.verdict.specs.Judges.{goodLetter, Refuses, not-nine, bad-byte, Given, Judges}
-use Rattle.verdict.specs.Means.{isBytes, Always, Sometimes, Both, Means, matchOf}
+use Rattle.verdict.specs.Judges.{goodLetter, Refuses, not-nine, bad-byte, Judges}
+use Rattle.verdict.specs.Means.{isBytes, Always, Sometimes, Means, matchOf}
 use Rattle.verdict.proofs.LawsBool.{not-both}
 
 module _ (answer : List ℕ → Bool) (ns : List ℕ) where
@@ -55,6 +52,11 @@ pub stays : (answer : List ℕ → Bool) (v w : Verdict) (ns s ms : List ℕ) �
 stays answer YesForGood w ns s ms h b a f g = one-verdict answer ms w YesForGood g (always-stays answer true ns s ms b a f)
 stays answer NoForGood w ns s ms h b a f g = one-verdict answer ms w NoForGood g (always-stays answer false ns s ms b a f)
 stays answer Open w ns s ms h b a f g = absurd (h refl)
+
+-- of a pattern too
+pub judged-stays : (p : List ℕ) (v w : Verdict) (ns s ms : List ℕ) → (v ≡ Open → ⊥) → isBytes s ≡ true → Accepts ns s ms
+    → Judges (Is v) p ns → Judges (Is w) p ms → w ≡ v
+judged-stays p v w ns s ms h b a f g = stays (matchOf p) v w ns s ms h b a (f .means) (g .means)
 
 -- a pattern has one answer: one refusal, or one verdict
 one-refusal : {p : List ℕ} {r q : Refusal} → Refuses p r → Refuses p q → r ≡ q

@@ -24,7 +24,6 @@ use Rattle.de9im.specs.declared.predicates.Predicate.the-variants.{
   Crosses,
   Overlaps,
 }
-use Rattle.de9im.specs.Cells.{numberAt}
 use Rattle.de9im.specs.Dimension.{dimNo}
 use Rattle.de9im.specs.Letters.{letterOf}
 use Rattle.de9im.specs.Matrix.{Matrix}

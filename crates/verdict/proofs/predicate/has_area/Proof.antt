@@ -10,4 +10,5 @@ has-area-spec =
     (λ c κs. search needs)
     (λ c κs. search needs)
     (λ c κs. search needs)
-    (λ c. let s = c .before .before .before .args in simp (c .number3 .ensures, c .before .number2 .ensures, c .before .before .number .ensures) (any-area (s .d) (s .e) (s .f))))
+    (λ c. let s = c .before .before .before .args in
+    simp (c .number3 .ensures, c .before .number2 .ensures, c .before .before .number .ensures) (any-area (s .d) (s .e) (s .f))))
