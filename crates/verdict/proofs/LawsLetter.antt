@@ -1,12 +1,11 @@
 -- What a letter can still come to, once over the letter and the dimension: it is in reach exactly when some dimension at least as large
 -- agrees with it, and firm exactly when every one does. Assumes nothing.
 use Prim.Native.Nat.{ℕ, _≤_, max}
-use mathlib.Core.Path.{_≡_, refl, sym, ap, _∙_}
+use mathlib.Core.Path.{_≡_, refl, sym}
 use mathlib.Core.Bool.{Bool, true, false, cond}
 use native.Mathlib.Omega.{arith}
-use borrow.Author.Tests.{eqb-true, eqb-false, eq-eqb, ne-eqb, leb-true, le-leb, not-true, not-false}
-use lib.Dec.{eqb, leb}
-use Rattle.de9im.specs.declared.dimensions.Dimensions.{Dimensions}
+use borrow.Author.Tests.{eqb-true, eqb-false, eq-eqb, ne-eqb, leb-true, le-leb, not-true}
+use lib.Dec.{eqb}
 use Rattle.de9im.specs.declared.«dimension_matcher».DimensionMatcher.{DimensionMatcher}
 use Rattle.de9im.specs.declared.«dimension_matcher».DimensionMatcher.the-variants.{Anything, NonEmpty, Exact}
 use Rattle.de9im.specs.declared.«dimension_matcher».Letter.{Letter}

@@ -1,6 +1,6 @@
 -- Laws of the loop over a pattern's bytes: one step of each test, its end, and what a pattern without a bad byte is. Assumes nothing.
 use Prim.Native.Nat.{ℕ, zero, suc, _+_, _≤_, _<_}
-use mathlib.Core.Path.{_≡_, refl, sym, ap, _∙_}
+use mathlib.Core.Path.{_≡_, refl, ap, _∙_}
 use mathlib.Core.Bool.{Bool, true, false, cond, _&&_}
 use mathlib.Core.List.{List, [], _∷_}
 use native.Mathlib.Numerals.{add-one}
@@ -9,16 +9,14 @@ use lib.ListN.{length, getD, drop, drop-of-length-le}
 use lib.Seq.{drop-cons}
 use Rattle.de9im.specs.declared.«dimension_matcher».DimensionMatcher.{DimensionMatcher}
 use Rattle.de9im.specs.declared.«dimension_matcher».Letter.the-variants.{Good}
-use Rattle.de9im.specs.declared.refusal.Spot.{Spot}
 use Rattle.de9im.specs.declared.refusal.Spot.the-variants.{Nowhere, At}
 use Rattle.de9im.specs.Dimension.{dimNo, dimOf}
 use Rattle.de9im.specs.Letters.{letterOf}
-use Rattle.de9im.specs.Patterns.{isLetter, WhollyGood}
+use Rattle.de9im.specs.Patterns.{WhollyGood}
 use Rattle.de9im.specs.Text.{firstBad}
 use Rattle.de9im.proofs.LawsForms.{nine-at}
-use Rattle.verdict.specs.declared.pattern.Judged.the-variants.{Is}
 use Rattle.verdict.specs.Judges.{goodLetter, Given}
-use Rattle.verdict.specs.Table.{reachOf, firmOf, letterPasses, every, byHope}
+use Rattle.verdict.specs.Table.{reachOf, firmOf, every, byHope}
 use Rattle.verdict.proofs.LawsPattern.{numbers, pattern-sound}
 
 -- a test at every place from k on

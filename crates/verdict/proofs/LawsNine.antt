@@ -1,20 +1,19 @@
 -- Nine records are needed: from FFFFFFFFF the pattern 000000000 is open, and no shorter run makes it yes. A record that leaves every
 -- cell at most 0 raises at most one of them. Assumes nothing.
-use Prim.Native.Nat.{ℕ, zero, suc, _+_, _*_, _/_, _%_, _≤_, _<_, min, max}
-use mathlib.Core.Path.{_≡_, refl, sym, ap, _∙_}
+use Prim.Native.Nat.{ℕ, suc, _+_, _*_, _≤_, _<_, min, max}
+use mathlib.Core.Path.{_≡_, refl, ap, _∙_}
 use mathlib.Core.Bool.{Bool, true, false, cond, _&&_}
 use mathlib.Core.List.{List, [], _∷_}
 use native.Mathlib.Omega.{arith}
 use borrow.Author.Tests.{eqb-true}
 use lib.Dec.{eqb}
 use lib.ListN.{length, getD}
-use Rattle.de9im.specs.declared.dimensions.Dimensions.the-variants.{ZeroDimensional, OneDimensional, TwoDimensional}
+use Rattle.de9im.specs.declared.dimensions.Dimensions.the-variants.{ZeroDimensional}
 use Rattle.de9im.specs.declared.«coordinate_position».Position.{Position}
 use Rattle.de9im.specs.declared.«coordinate_position».Position.the-variants.{None, Inside, OnBoundary, Outside}
 use Rattle.de9im.specs.Bytes.{bytes}
 use Rattle.de9im.specs.Cells.{cellsOf, matrixOf}
 use Rattle.de9im.specs.Letters.{letterOf}
-use Rattle.de9im.specs.Matrix.{Matrix}
 use Rattle.de9im.specs.Patterns.{isLetter, matchesOf, WhollyGood}
 use Rattle.de9im.specs.Position.{rowOf}
 use Rattle.de9im.specs.Text.{nineZeros}

@@ -1,8 +1,8 @@
 -- A pattern's verdict by its letters is demand 3's: no for good if a letter is out of reach, yes for good if all are firm, else open.
 -- Assumes nothing.
 use Prim.Native.Nat.{ℕ, zero, suc, _≤_, _<_, min}
-use mathlib.Core.Path.{_≡_, refl, sym, ap, _∙_}
-use mathlib.Core.Bool.{Bool, true, false, cond, _&&_}
+use mathlib.Core.Path.{_≡_, refl, ap, _∙_}
+use mathlib.Core.Bool.{Bool, true, false}
 use mathlib.Core.List.{List, [], _∷_}
 use native.Mathlib.Omega.{arith}
 use lib.ListN.{length, getD}
@@ -14,13 +14,12 @@ use Rattle.de9im.specs.Cells.{cellsOf, matrixOf}
 use Rattle.de9im.specs.Dimension.{dimNo, dimOf}
 use Rattle.de9im.specs.Letters.{letterOf, agreeLetter}
 use Rattle.de9im.specs.Matrix.{Matrix}
-use Rattle.de9im.specs.Patterns.{matchesOf, isLetter, WhollyGood}
+use Rattle.de9im.specs.Patterns.{matchesOf, WhollyGood}
 use Rattle.de9im.specs.Text.{nine}
 use Rattle.de9im.proofs.LawsDimension.{number-back}
 use Rattle.de9im.proofs.LawsForms.{nine-at}
 use Rattle.de9im.proofs.LawsMatches.{yes-each, each-yes}
-use Rattle.verdict.specs.declared.Verdict.the-variants.{YesForGood, NoForGood, Open}
-use Rattle.verdict.specs.Means.{Always, Sometimes, Both, Means, saysYes, matchOf}
+use Rattle.verdict.specs.Means.{Always, Sometimes, Means, saysYes, matchOf}
 use Rattle.verdict.specs.Table.{reachOf, firmOf, letterPasses, every, byHope}
 use Rattle.verdict.proofs.LawsBool.{not-both, and-left, and-right}
 use Rattle.verdict.proofs.LawsLetter.{

@@ -1,9 +1,9 @@
 -- The table of predicates is demand 3's: for each predicate the cells that show its verdict, as nine numbers above those given.
 -- Assumes nothing.
-use Prim.Native.Nat.{ℕ, suc, _-_, _≤_, _<_, min, max}
-use mathlib.Core.Path.{_≡_, refl, sym, ap, subst, _∙_}
+use Prim.Native.Nat.{ℕ, _-_, _≤_, _<_, min, max}
+use mathlib.Core.Path.{_≡_, refl, ap, subst, _∙_}
 use mathlib.Core.Bool.{Bool, true, false, cond, not, _&&_, _||_, and-false}
-use mathlib.Core.List.{List, [], _∷_}
+use mathlib.Core.List.{List}
 use native.Mathlib.Omega.{arith}
 use borrow.Author.Tests.{eqb-true, eqb-false, eq-eqb, ne-eqb}
 use lib.Dec.{eqb}
@@ -158,7 +158,7 @@ module _ (ns : List ℕ) where
   intersects-sound =
       by-test (answerOf Intersects) Open YesForGood (disjoint m) (disjoint m) refl
       (λ e. opens Intersects (only 0) none refl (simp (dim-back, e)))
-      (λ e rs os r. ap not (apart-closed e rs os r))
+      (λ e rs os b r. ap not (apart-closed e rs os b r))
 
   -- two cells that must be F
   module _ (p : Predicate) (j k : ℕ) (h : j < 9) (l : k < 9) (f : Asks p j) (g : Asks p k) where
@@ -378,6 +378,7 @@ predicate-sound Overlaps ns = overlaps-sound ns
 
 -- a matrix three by three has the table's verdict too
 verdict-back : (p : Predicate) (m : Matrix) → verdictOf p (matrixOf (cellsOf m)) ≡ verdictOf p m
+unfolding holds
 verdict-back Disjoint m = simp dim-back
 verdict-back Intersects m = simp dim-back
 verdict-back Within m = simp dim-back

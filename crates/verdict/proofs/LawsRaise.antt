@@ -1,12 +1,12 @@
 -- One record raises one cell to one dimension, and leaves every other cell: shown by its bytes. Assumes nothing.
-use Prim.Native.Nat.{ℕ, zero, suc, _+_, _*_, _/_, _%_, _≤_, _<_, min, max}
+use Prim.Native.Nat.{ℕ, zero, suc, _+_, _*_, _/_, _%_, _<_, min, max}
 use mathlib.Core.Path.{_≡_, refl, sym, ap, _∙_}
-use mathlib.Core.Bool.{Bool, true, false, cond, _&&_, _||_}
+use mathlib.Core.Bool.{Bool, true, false, cond, _&&_}
 use mathlib.Core.List.{List, [], _∷_}
 use native.Mathlib.Omega.{arith}
 use borrow.Author.Tests.{eqb-true, eqb-false, eq-eqb, ne-eqb}
-use lib.Dec.{eqb}
-use lib.ListN.{length, getD}
+use lib.Dec.{eqb, ltb}
+use lib.ListN.{getD}
 use Rattle.de9im.specs.declared.dimensions.Dimensions.{Dimensions}
 use Rattle.de9im.specs.declared.dimensions.Dimensions.the-variants.{Empty, ZeroDimensional, OneDimensional, TwoDimensional}
 use Rattle.de9im.specs.declared.«coordinate_position».Coded.the-variants.{Is}
@@ -14,7 +14,7 @@ use Rattle.de9im.specs.declared.«coordinate_position».CoordPos.{CoordPos}
 use Rattle.de9im.specs.declared.«coordinate_position».CoordPos.the-variants.{Inside, OnBoundary, Outside}
 use Rattle.de9im.specs.Cells.{cellsOf, matrixOf}
 use Rattle.de9im.specs.Dimension.{dimNo}
-use Rattle.de9im.specs.Matrix.{cellAt, atLeastOf}
+use Rattle.de9im.specs.Matrix.{atLeastOf}
 use Rattle.de9im.specs.Position.{known, rowOf, codedOf}
 use Rattle.de9im.proofs.LawsForms.{matrix-shaped}
 use Rattle.de9im.proofs.LawsPatterns.{cells-at}
@@ -28,6 +28,7 @@ use Rattle.plan.specs.LabelBytes.{sidesAt, labelAt}
 use Rattle.plan.specs.Record.{nodeOf, edgeOf, recordOf}
 use Rattle.plan.specs.Run.{Accepts}
 use Rattle.plan.proofs.LawsRun.{given-cell}
+use Rattle.verdict.specs.Means.{isBytes}
 
 -- a position's code
 abbrev codeOf : CoordPos → ℕ
@@ -51,6 +52,18 @@ raiser Empty p q = []
 raiser ZeroDimensional p q = 0 ∷ 7 ∷ 1 ∷ 1 ∷ codeOf p ∷ codeOf q ∷ 0 ∷ 0 ∷ 0 ∷ []
 raiser OneDimensional p q = 0 ∷ 9 ∷ 1 ∷ 2 ∷ 0 ∷ codeOf p ∷ 0 ∷ 0 ∷ codeOf q ∷ 0 ∷ 0 ∷ []
 raiser TwoDimensional p q = 0 ∷ 9 ∷ 1 ∷ 2 ∷ 1 ∷ 0 ∷ codeOf p ∷ 0 ∷ 0 ∷ codeOf q ∷ 0 ∷ []
+
+-- it is a string of bytes
+code-byte : (p : CoordPos) → ltb (codeOf p) 256 ≡ true
+code-byte Inside = refl
+code-byte OnBoundary = refl
+code-byte Outside = refl
+
+pub raiser-bytes : (p q : CoordPos) (d : Dimensions) → isBytes (raiser d p q) ≡ true
+raiser-bytes p q Empty = refl
+raiser-bytes p q ZeroDimensional = simp code-byte
+raiser-bytes p q OneDimensional = simp code-byte
+raiser-bytes p q TwoDimensional = simp code-byte
 
 -- it is accepted, and raises
 pub raiser-accepted : (ns : List ℕ) (p q : CoordPos) (d : Dimensions) → 0 < dimNo d

@@ -5,8 +5,8 @@ use mathlib.Core.Path.{_≡_, refl, sym, ap, _∙_}
 use mathlib.Core.Bool.{Bool, true, false, cond}
 use mathlib.Core.List.{List, [], _∷_}
 use native.Mathlib.Omega.{arith}
-use borrow.Author.Tests.{eqb-true, eqb-false, ltb-true, ltb-false}
-use lib.Dec.{eqb, ltb}
+use borrow.Author.Tests.{eqb-true, eqb-false}
+use lib.Dec.{eqb}
 use lib.ListN.{length, getD}
 use Rattle.de9im.specs.Cells.{matrixOf}
 use Rattle.de9im.specs.Dimension.{dimNo, dimOf}
@@ -16,8 +16,8 @@ use Rattle.de9im.proofs.LawsDimension.{dim-back, number-back}
 use Rattle.de9im.proofs.LawsForms.{nine-at}
 use Rattle.plan.specs.Run.{Run, none, then}
 use Rattle.plan.proofs.LawsRun.{run-rises}
-use Rattle.verdict.specs.Means.{Always, Sometimes}
-use Rattle.verdict.proofs.LawsRaise.{raiserAt, raisedAt, raiser-accepted, raised-cell, posOf}
+use Rattle.verdict.specs.Means.{areBytes, Always, Sometimes}
+use Rattle.verdict.proofs.LawsRaise.{raiserAt, raisedAt, raiser-bytes, raiser-accepted, raised-cell, posOf}
 
 -- what a number is read as
 abbrev pub readAt : List ℕ → ℕ → ℕ
@@ -53,6 +53,7 @@ read-same ns ts h =
 pub record Reached (ns ts : List ℕ) (n : ℕ) : Type 0 where
   pub records : List (List ℕ)
   pub after : List ℕ
+  pub bytes : areBytes records ≡ true
   pub accepted : Run ns records after
   pub few : length records ≤ n
   pub same : (k : ℕ) → k < 9 → readAt after k ≡ getD ts k 0
@@ -105,13 +106,21 @@ module _ (n : ℕ) (ns ts : List ℕ) (h : n < 9) (a : Above ns ts) (done : (k :
     one-cell : (t : Bool) → eqb (readAt ns c) v ≡ t → Reached ns ts (suc n)
     one-cell true e =
         let r = rest ns a (λ k l. ns-done e k l (eqb k c) refl) in
-        record { records = r .records; after = r .after; accepted = r .accepted; few = omega (arith, r .few); same = r .same }
+        record {
+          records = r .records;
+          after = r .after;
+          bytes = r .bytes;
+          accepted = r .accepted;
+          few = omega (arith, r .few);
+          same = r .same;
+        }
     one-cell false e =
         let r = rest ms (record { low = λ k l. ms-low k l (eqb k c) refl; top = a .top }) (λ k l. ms-done k l (eqb k c) refl) in
         let f = eqb-false (readAt ns c) v e in
         record {
           records = raiserAt c (dimOf v) ∷ r .records;
           after = r .after;
+          bytes = simp (raiser-bytes (posOf (c / 3)) (posOf (c % 3)) (dimOf v)) (r .bytes);
           accepted = then (raiser-accepted ns (posOf (c / 3)) (posOf (c % 3)) (dimOf v) (omega (arith, is-v, a .low c (omega arith))))
               (r .accepted);
           few = omega (arith, r .few);
@@ -121,7 +130,7 @@ module _ (n : ℕ) (ns ts : List ℕ) (h : n < 9) (a : Above ns ts) (done : (k :
 -- the last n cells, one after the other
 last-cells : (n : ℕ) (ns ts : List ℕ) → n ≤ 9 → Above ns ts → ((k : ℕ) → k + n < 9 → readAt ns k ≡ getD ts k 0) → Reached ns ts n
 last-cells zero ns ts h a done =
-    record { records = []; after = ns; accepted = none; few = omega arith; same = λ k l. done k (omega arith) }
+    record { records = []; after = ns; bytes = refl; accepted = none; few = omega arith; same = λ k l. done k (omega arith) }
 last-cells (suc n) ns ts h a done =
     one-cell n ns ts (omega arith) a done (λ ms b d. last-cells n ms ts (omega arith) b d)
     (eqb (readAt ns (8 - n)) (getD ts (8 - n) 0)) refl
@@ -140,18 +149,28 @@ reached-above {ns} {os} r =
       top = λ k l. omega (arith, nine-at (readAt os) k l);
     }
 
+-- so a run's result is read as ts exactly when ts is above
+pub reached-only : {ns ts : List ℕ} {n : ℕ} → Reached ns ts n → Above ns ts
+reached-only r =
+    let a = reached-above (r .accepted) in
+    record {
+      low = λ k l. omega (arith, a .low k l, nine-at (readAt (r .after)) k l, r .same k l);
+      top = λ k l. omega (arith, r .same k l);
+    }
+
 -- a verdict over nine numbers: an answer goes by the matrix that they stand for
-module _ (answer : Matrix → Bool) (b : Bool) (ns : List ℕ) where
-  pub always : ((ts : List ℕ) → Above ns ts → answer (matrixOf ts) ≡ b) → Always (λ os. answer (matrixOf os)) b ns
-  always f rs os r =
+module _ (answer : Matrix → Bool) (y : Bool) (ns : List ℕ) where
+  pub always : ((ts : List ℕ) → Above ns ts → answer (matrixOf ts) ≡ y) → Always (λ os. answer (matrixOf os)) y ns
+  always f rs os b r =
       ap answer (read-same os (nine (readAt os)) (λ k l. omega (arith, nine-at (readAt os) k l))) ∙ f (nine (readAt os)) (reached-above r)
 
-  pub sometimes : (ts : List ℕ) → Above ns ts → answer (matrixOf ts) ≡ b → Sometimes (λ os. answer (matrixOf os)) b ns
+  pub sometimes : (ts : List ℕ) → Above ns ts → answer (matrixOf ts) ≡ y → Sometimes (λ os. answer (matrixOf os)) y ns
   sometimes ts a e =
       let r = reaches ns ts a in
       record {
         records = r .records;
         after = r .after;
+        bytes = r .bytes;
         accepted = r .accepted;
         few = r .few;
         says = ap answer (read-same (r .after) ts (λ k l. omega (arith, r .same k l, a .top k l))) ∙ e;

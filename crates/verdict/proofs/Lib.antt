@@ -9,3 +9,4 @@ pub mod LawsLetter
 pub mod LawsPattern
 pub mod LawsLoop
 pub mod LawsNine
+pub mod Examples

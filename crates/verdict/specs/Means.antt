@@ -5,8 +5,9 @@
 -- That a matrix has one verdict, so that each holds exactly then, is `one-verdict` of proofs/LawsVerdict.antt.
 use Prim.Native.Nat.{ℕ, _≤_}
 use mathlib.Core.Path.{_≡_}
-use mathlib.Core.Bool.{Bool, true, false}
-use mathlib.Core.List.{List}
+use mathlib.Core.Bool.{Bool, true, false, _&&_}
+use mathlib.Core.List.{List, [], _∷_}
+use lib.Dec.{ltb}
 use lib.ListN.{length}
 use Rattle.de9im.specs.declared.predicates.Predicate.{Predicate}
 use Rattle.de9im.specs.declared.patterns.Matched.{Matched}
@@ -31,14 +32,24 @@ saysYes (Refused r) = false
 abbrev pub matchOf : List ℕ → List ℕ → Bool
 matchOf p ns = saysYes (matchesOf (matrixOf ns) p)
 
+-- a record is a string of bytes, and a run has such records alone
+abbrev pub isBytes : List ℕ → Bool
+isBytes [] = true
+isBytes (b ∷ bs) = ltb b 256 && isBytes bs
+
+abbrev pub areBytes : List (List ℕ) → Bool
+areBytes [] = true
+areBytes (s ∷ rs) = isBytes s && areBytes rs
+
 -- the answer after every accepted run
 abbrev pub Always : (List ℕ → Bool) → Bool → List ℕ → Type 0
-Always answer b ns = (rs : List (List ℕ)) (os : List ℕ) → Run ns rs os → answer os ≡ b
+Always answer b ns = (rs : List (List ℕ)) (os : List ℕ) → areBytes rs ≡ true → Run ns rs os → answer os ≡ b
 
 -- the answer after some accepted run of at most nine records
 pub record Sometimes (answer : List ℕ → Bool) (b : Bool) (ns : List ℕ) : Type 0 where
   pub records : List (List ℕ)
   pub after : List ℕ
+  pub bytes : areBytes records ≡ true
   pub accepted : Run ns records after
   pub few : length records ≤ 9
   pub says : answer after ≡ b

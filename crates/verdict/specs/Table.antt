@@ -24,11 +24,10 @@ use Rattle.de9im.specs.declared.predicates.Predicate.the-variants.{
   Crosses,
   Overlaps,
 }
-use Rattle.de9im.specs.Cells.{numberAt}
 use Rattle.de9im.specs.Dimension.{dimNo}
 use Rattle.de9im.specs.Letters.{letterOf}
 use Rattle.de9im.specs.Matrix.{Matrix}
-use Rattle.de9im.specs.Predicates.{isF, both, disjoint}
+use Rattle.de9im.specs.Predicates.{isF, both, holds}
 use Rattle.verdict.specs.declared.Verdict.{Verdict}
 use Rattle.verdict.specs.declared.Verdict.the-variants.{YesForGood, NoForGood, Open}
 
@@ -73,8 +72,8 @@ abbrev pub overlapStays : Matrix → Bool
 overlapStays m = both TwoDimensional m && (not (isF m I I) && (not (isF m I E) && not (isF m E I)))
 
 abbrev pub verdictOf : Predicate → Matrix → Verdict
-verdictOf Disjoint m = cond (disjoint m) Open NoForGood
-verdictOf Intersects m = cond (disjoint m) Open YesForGood
+verdictOf Disjoint m = cond (holds Disjoint m) Open NoForGood
+verdictOf Intersects m = cond (holds Disjoint m) Open YesForGood
 verdictOf Within m = cond (inner m) Open NoForGood
 verdictOf Contains m = cond (outer m) Open NoForGood
 verdictOf EqualTopo m = cond (inner m && outer m) Open NoForGood

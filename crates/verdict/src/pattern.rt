@@ -34,11 +34,8 @@ pub fn of_cells(cells: Cells, pattern: &[u8]) -> Judged
         hope = hope & can_reach(w, d);
         firm = firm & is_firm(w, d);
     }
-    Judged::Is(pick(
-        hope,
-        pick(firm, Verdict::YesForGood, Verdict::Open),
-        Verdict::NoForGood,
-    ))
+    let reachable = pick(firm, Verdict::YesForGood, Verdict::Open);
+    Judged::Is(pick(hope, reachable, Verdict::NoForGood))
 }
 
 pub fn of_matrix(m: IntersectionMatrix, pattern: &[u8]) -> Judged

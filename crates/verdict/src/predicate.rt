@@ -3,20 +3,18 @@ use crate::Verdict;
 use crate::pick;
 use de9im::cells::Cells;
 use de9im::cells::from_cells;
-use de9im::dimensions;
 use de9im::dimensions::Dimensions;
 use de9im::dimensions::number;
 use de9im::intersection_matrix::IntersectionMatrix;
 use de9im::predicates::Predicate;
+use de9im::predicates::is_disjoint;
 ghost use mathlib.Core.Path.{_≡_};
-ghost use mathlib.Core.Bool.{cond, _&&_};
 ghost use lib.Dec.{eqb};
 ghost use Prim.Native.Nat.{max};
 ghost use Rattle.de9im.specs.declared.dimensions.Dimensions.the-variants.{TwoDimensional};
-ghost use Rattle.de9im.specs.declared.predicates.Predicate.the-variants as P;
 ghost use Rattle.de9im.specs.Cells.{cellsOf};
 ghost use Rattle.de9im.specs.Dimension.{dimNo};
-ghost use Rattle.de9im.specs.Predicates.{disjoint, both};
+ghost use Rattle.de9im.specs.Predicates.{both};
 ghost use Rattle.verdict.specs.Means.{Means, answerOf};
 ghost use Rattle.verdict.specs.Table.{inner, outer, clear, overlapStays, verdictOf};
 
@@ -47,23 +45,18 @@ fn is_clear(m: IntersectionMatrix) -> bool
     is_f(m[1][0]) & is_f(m[1][1])
 }
 
-fn is_apart(m: IntersectionMatrix) -> bool
-    ensures { λ r. ⌜ r ≡ disjoint m ⌝ }
+// The largest of three is 2: one of them is.
+fn has_area(d: Dimensions, e: Dimensions, f: Dimensions) -> bool
+    ensures { λ r. ⌜ r ≡ eqb (max (max (dimNo d) (dimNo e)) (dimNo f)) 3 ⌝ }
 {
-    is_f(m[0][0]) & is_f(m[0][1]) & is_f(m[1][0]) & is_f(m[1][1])
-}
-
-fn largest(d: Dimensions, e: Dimensions, f: Dimensions) -> u8
-    ensures { λ r. ⌜ r ≡ max (max (dimNo d) (dimNo e)) (dimNo f) ⌝ }
-{
-    number(dimensions::max(dimensions::max(d, e), f))
+    (number(d) == 3) | (number(e) == 3) | (number(f) == 3)
 }
 
 // Two areas: a and b are both 2.
 fn are_areas(m: IntersectionMatrix) -> bool
     ensures { λ r. ⌜ r ≡ both TwoDimensional m ⌝ }
 {
-    (largest(m[0][0], m[0][1], m[0][2]) == 3) & (largest(m[0][0], m[1][0], m[2][0]) == 3)
+    has_area(m[0][0], m[0][1], m[0][2]) & has_area(m[0][0], m[1][0], m[2][0])
 }
 
 // For two areas overlaps asks for II, IE and EI, which never fall back to F.
@@ -77,8 +70,8 @@ fn at(p: Predicate, m: IntersectionMatrix) -> Verdict
     ensures { λ r. ⌜ r ≡ verdictOf p m ⌝ }
 {
     match p {
-        Predicate::Disjoint => pick(is_apart(m), Verdict::Open, Verdict::NoForGood),
-        Predicate::Intersects => pick(is_apart(m), Verdict::Open, Verdict::YesForGood),
+        Predicate::Disjoint => pick(is_disjoint(m), Verdict::Open, Verdict::NoForGood),
+        Predicate::Intersects => pick(is_disjoint(m), Verdict::Open, Verdict::YesForGood),
         Predicate::Within => pick(is_inner(m), Verdict::Open, Verdict::NoForGood),
         Predicate::Contains => pick(is_outer(m), Verdict::Open, Verdict::NoForGood),
         Predicate::EqualTopo => pick(is_inner(m) & is_outer(m), Verdict::Open, Verdict::NoForGood),

@@ -2,10 +2,10 @@
 -- what is left. Assumes nothing.
 use borrow.Author.Needs.{needs}
 use native.Mathlib.Omega.{arith}
-use Prim.Native.Nat.{_+_, _-_, _≤_}
-use mathlib.Core.Path.{_≡_, refl, sym, ap, _∙_}
-use mathlib.Core.Bool.{true, _&&_}
-use lib.ListN.{length, getD}
+use Prim.Native.Nat.{_-_, _≤_}
+use mathlib.Core.Path.{_≡_, refl, ap, _∙_}
+use mathlib.Core.Bool.{_&&_}
+use lib.ListN.{getD}
 use Rattle.de9im.specs.declared.«dimension_matcher».Letter.the-variants.{Good, Bad}
 use Rattle.de9im.specs.Dimension.{dimNo, dimOf}
 use Rattle.de9im.specs.Letters.{letterOf}

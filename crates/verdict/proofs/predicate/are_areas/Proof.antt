@@ -20,4 +20,4 @@ are-areas-spec =
     (λ c. search needs)
     (λ c. search needs)
     (λ c κs. search needs)
-    (λ c. simp (c .largest2 .ensures, c .before .before .before .before .largest .ensures)))
+    (λ c. simp (c .has-area2 .ensures, c .before .before .before .before .has-area .ensures)))

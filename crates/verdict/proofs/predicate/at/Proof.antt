@@ -43,8 +43,8 @@ at-spec =
     (λ c. search needs)
     (λ c κs. search needs)
     (λ c κs. search needs)
-    (λ c. simp (c .pick .ensures, c .before .is-apart .ensures, c .before .before .enum-told .given .1))
-    (λ c. simp (c .pick2 .ensures, c .before .is-apart2 .ensures, c .before .before .enum-told2 .given .1))
+    (λ c. simp (c .pick .ensures, c .before .is-disjoint .ensures, c .before .before .enum-told .given .1))
+    (λ c. simp (c .pick2 .ensures, c .before .is-disjoint2 .ensures, c .before .before .enum-told2 .given .1))
     (λ c. simp (c .pick3 .ensures, c .before .is-inner .ensures, c .before .before .enum-told3 .given .1))
     (λ c. simp (c .pick4 .ensures, c .before .is-outer .ensures, c .before .before .enum-told4 .given .1))
     (λ c. simp (
