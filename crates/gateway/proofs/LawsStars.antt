@@ -35,7 +35,7 @@ module _ (f : ℕ → ℕ) where
   table-length zero = refl
   table-length (suc k) = length-append (table k f) (f k ∷ []) ∙ omega (arith, table-length k)
 
-  pub write-next : (n k m x : ℕ) (out : List ℕ) → k < n → m ≡ k + 1 → x ≡ f k → out ≡ padTo n 0 (table k f)
+  write-next : (n k m x : ℕ) (out : List ℕ) → k < n → m ≡ k + 1 → x ≡ f k → out ≡ padTo n 0 (table k f)
       → set out k x ≡ padTo n 0 (table m f)
   unfolding table
   write-next n k m x out h i e o = rw (i, add-one, o, e) (pad-step 0 n (table k f) (f k) k (table-length k) h)

@@ -15,6 +15,7 @@ ghost use lib.ListN.{length, take};
 ghost use Rattle.plan.specs.EndBytes.{dirAt, readEnds, endsOf, endsCall};
 ghost use Rattle.plan.specs.Reading.{endFault, endRead};
 
+// What an end's bytes say, or the first refusal: only the definitions speak of it.
 pub enum EndRead {
     Is(EdgeEnd),
     Bad(Refusal),

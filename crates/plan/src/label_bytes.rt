@@ -15,6 +15,7 @@ ghost use Rattle.de9im.specs.Position.{codedOf};
 ghost use Rattle.plan.specs.LabelBytes.{labelAt};
 ghost use Rattle.plan.specs.Reading.{knownOf, goodThree, bareThree, threeRead, labelFault, labelRead};
 
+// What a half's three bytes say, or that one is no code: only the definitions speak of it.
 pub enum SidesRead {
     Is(Sides),
     Bad,
