@@ -1,5 +1,5 @@
--- Document 01, "Examples to prove": P1 to P14, but P7 and P8, which are about the verdict; and "At the edges: 32 ends pass, 33 are 5; a node
--- without ends passes; offset 0 in 12 bytes passes, offset 1 is 12."
+-- Document 01, "Examples to prove": P1 to P14, but P7 and P8, which are about the verdict; and "At the edges: 32 ends pass, 33 are 5; a
+-- node without ends passes; offset 0 in 12 bytes passes, offset 1 is 12."
 use Prim.Native.Nat.{ℕ, zero, suc}
 use mathlib.Core.Bool.{true, false}
 use mathlib.Core.List.{List, [], _∷_, _++_}
