@@ -26,6 +26,8 @@ use Rattle.plan.specs.Report.{wroteOf, writtenOf}
 use Rattle.place.specs.declared.places.Place.{Place}
 use Rattle.place.specs.declared.relate.Related.the-variants.{Accepted}
 use Rattle.place.specs.Relate.{relateOf}
+use Rattle.verdict.specs.declared.pattern.Judged.{Judged}
+use Rattle.verdict.specs.Judges.{Judges}
 
 -- the nine numbers of a matrix as document 01 prints it
 abbrev pub cells : String → List ℕ
@@ -46,6 +48,8 @@ pub data Example : Type 0 where
   predicate-says : (p : Predicate) (m : String) (answer : Bool) → Example
   -- `matches` of a pattern on a matrix
   pattern-says : (p m : String) (answer : Matched) → Example
+  -- the verdict of a pattern on a matrix
+  verdict-says : (p m : String) (answer : Judged) → Example
   -- the matrix of two places
   places-give : (first second : Place) (m : String) → Example
   -- the joined label of a bundle call
@@ -64,6 +68,7 @@ says (record-gives before s used after) = recordOf (cells before) s ≡ record {
 says (record-refused before s r) = recordOf (cells before) s ≡ record { answer = Refused r; cells = cells before }
 says (predicate-says p m answer) = holds p (matrixOf (cells m)) ≡ answer
 says (pattern-says p m answer) = matchesOf (matrixOf (cells m)) (bytes p) ≡ answer
+says (verdict-says p m answer) = Judges answer (bytes p) (cells m)
 says (places-give first second m) = relateOf first second ≡ record { related = Accepted; cells = cells m }
 says (bundle-gives ends l) = bundledOf (slots 32 ends) (length ends) ≡ Joined l
 says (report-gives m buf offset used after) = written m buf offset ≡ (Used used, after)
