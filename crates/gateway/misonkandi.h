@@ -28,6 +28,14 @@ uint32_t misonkandi_predicate(const uint8_t cells[9], uint32_t which);
 /* 1 yes, 0 no, or a refusal (10, or 11 with its place). */
 uint32_t misonkandi_matches(const uint8_t cells[9], const uint8_t *pattern, size_t count);
 
+/* The early verdict of the predicate with that place in the same order: 1 yes for good, 0 no for good (whatever accepted records
+ * still come), 2 open (some run of at most nine records ends in yes and some in no); 3 if there is no such predicate. */
+uint32_t misonkandi_verdict(const uint8_t cells[9], uint32_t which);
+
+/* The early verdict of a pattern: 1, 0 or 2 as above, or a refusal (10, or 11 with the place of the first bad byte): the whole
+ * pattern is checked before any cell is looked at. */
+uint32_t misonkandi_verdict_pattern(const uint8_t cells[9], const uint8_t *pattern, size_t count);
+
 /* Reads a matrix text: 0 and the cells written, or a refusal (10, 11) and nothing written. */
 uint32_t misonkandi_from_text(uint8_t cells[9], const uint8_t *text, size_t count);
 

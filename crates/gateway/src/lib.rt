@@ -3,6 +3,7 @@
 pub mod places;
 pub mod records;
 pub mod stars;
+pub mod verdicts;
 pub mod words;
 
 use crate::words::Numbered;

@@ -10,17 +10,17 @@ use star::edge_end_bundle::Bundled;
 use star::edge_end_bundle::bundle;
 use star::edge_end_bundle_star::Labeled;
 use star::edge_end_bundle_star::StarAnswer;
-use star::edge_end_bundle_star::star;
+use star::edge_end_bundle_star::star_of;
 use star::label::Label;
-use star::topology_position::Sides;
 ghost use mathlib.Core.Path.{_≡_};
+ghost use Prim.Native.Nat.{_≤_};
+ghost use lib.ListN.{take};
+ghost use Rattle.star.specs.Label.{padded};
 ghost use Rattle.plan.specs.EndBytes.{endsCall};
 ghost use Rattle.de9im.specs.Position.{codedOf};
 ghost use Rattle.gateway.specs.Stars.{
   codeOf,
   kindOf,
-  sidesByte,
-  labelByte,
   labelsBytes,
   labelBytes,
   bundleWord,
@@ -49,52 +49,48 @@ fn kind(area: bool) -> u8
     if area { 1 } else { 0 }
 }
 
-// The j-th of a half's three bytes.
-fn sides_byte(s: Sides, j: usize) -> u8
-    ensures { λ r. ⌜ r ≡ sidesByte s j ⌝ }
-{
-    let on = s.on;
-    let left = s.left;
-    let right = s.right;
-    match j {
-        0 => code(on),
-        1 => code(left),
-        _ => code(right),
-    }
-}
-
-// The j-th of a label's seven bytes.
-fn label_byte(l: Label, j: usize) -> u8
-    ensures { λ r. ⌜ r ≡ labelByte l j ⌝ }
-{
-    let a = l.a;
-    let b = l.b;
-    if j == 0 {
-        return kind(l.area);
-    }
-    if j < 4 {
-        return sides_byte(a, j - 1);
-    }
-    sides_byte(b, j - 4)
-}
-
-fn all_bytes(labels: [Label; 32]) -> [u8; 224]
-    ensures { λ r. ⌜ r ≡ labelsBytes labels ⌝ }
-{
-    let mut out = [0u8; 224];
-    for k in 0..224usize {
-        let l = labels[k / 7];
-        out[k] = label_byte(l, k % 7);
-    }
-    out
-}
-
 fn seven_bytes(l: Label) -> [u8; 7]
     ensures { λ r. ⌜ r ≡ labelBytes l ⌝ }
 {
-    let mut out = [0u8; 7];
-    for k in 0..7usize {
-        out[k] = label_byte(l, k);
+    let a = l.a;
+    let on_a = a.on;
+    let left_a = a.left;
+    let right_a = a.right;
+    let b = l.b;
+    let on_b = b.on;
+    let left_b = b.left;
+    let right_b = b.right;
+    [
+        kind(l.area),
+        code(on_a),
+        code(left_a),
+        code(right_a),
+        code(on_b),
+        code(left_b),
+        code(right_b),
+    ]
+}
+
+// The bytes of the first count labels. The labels past them are blanks, and a blank's bytes are the zeros that stand there.
+fn all_bytes(labels: [Label; 32], count: usize) -> [u8; 224]
+    requires { ⌜ (count ≤ 32) × (labels ≡ padded (take count labels)) ⌝ }
+    ensures { λ r. ⌜ r ≡ labelsBytes labels ⌝ }
+{
+    let mut out = [0u8; 224];
+    let mut i: usize = 0;
+    let mut p: usize = 0;
+    while i < count {
+        let l = labels[i];
+        let w = seven_bytes(l);
+        out[p] = w[0];
+        out[p + 1] = w[1];
+        out[p + 2] = w[2];
+        out[p + 3] = w[3];
+        out[p + 4] = w[4];
+        out[p + 5] = w[5];
+        out[p + 6] = w[6];
+        i += 1;
+        p += 7;
     }
     out
 }
@@ -128,7 +124,9 @@ pub extern "C" fn misonkandi_bundle(ends: &[u8], label: &mut [u8; 7]) -> u32
     }
 }
 
+// A star whose slots past the count are blanks, as every star's are.
 fn put_star(s: Labeled, out: &mut [u8; 224]) -> u32
+    requires { ⌜ (s .count ≤ 32) × (s .labels ≡ padded (take (s .count) (s .labels))) ⌝ }
     ensures { λ w. ⌜ (w ≡ starWord s) × (now (out .exit) ≡ starBytes s (now (out .entry))) ⌝ }
 {
     let answer = s.answer;
@@ -136,7 +134,7 @@ fn put_star(s: Labeled, out: &mut [u8; 224]) -> u32
     let count = s.count;
     match answer {
         StarAnswer::Completed => {
-            let written = all_bytes(labels);
+            let written = all_bytes(labels, count);
             *out = written;
             (count % 65536) as u32
         }
@@ -153,7 +151,7 @@ fn star_at(ends: &[u8], p: Position, q: Position, labels: &mut [u8; 224]) -> u32
     let answer = read.answer;
     let es = read.ends;
     match answer {
-        EndsAnswer::Read => put_star(star(es, n, p, q), labels),
+        EndsAnswer::Read => put_star(star_of(es, n, p, q), labels),
         EndsAnswer::Refused(r) => refusal_word(r),
     }
 }

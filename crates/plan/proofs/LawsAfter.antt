@@ -17,7 +17,7 @@ use Rattle.plan.specs.declared.Answer.{Answer}
 use Rattle.plan.specs.declared.Answer.the-variants.{Used, Refused}
 use Rattle.plan.specs.declared.«label_bytes».LabelRead.{LabelRead}
 use Rattle.plan.specs.declared.«label_bytes».LabelRead.the-variants as L
-use Rattle.plan.specs.declared.record.Node.{Node}
+use Rattle.star.specs.declared.pouring.Node.{Node}
 use Rattle.plan.specs.declared.record.NodeRead.{NodeRead}
 use Rattle.plan.specs.declared.record.NodeRead.the-variants as N
 use Rattle.plan.specs.declared.record.RecordAnswer.{RecordAnswer}

@@ -2,6 +2,7 @@
 pub mod LawsWords
 pub mod LawsReport
 pub mod LawsReportTrip
+pub mod LawsReading
 pub mod LawsEnds
 pub mod LawsRecord
 pub mod LawsRecordOrder

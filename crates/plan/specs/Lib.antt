@@ -3,5 +3,6 @@ pub mod Words
 pub mod LabelBytes
 pub mod Report
 pub mod EndBytes
+pub mod Reading
 pub mod Record
 pub mod Run

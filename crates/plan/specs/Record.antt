@@ -15,6 +15,7 @@ use Rattle.de9im.specs.declared.refusal.Refusal.the-variants.{Short, Version, K
 use Rattle.de9im.specs.Cells.{cellsOf, matrixOf}
 use Rattle.de9im.specs.Matrix.{Matrix}
 use Rattle.de9im.specs.Position.{codedOf}
+use Rattle.star.specs.declared.pouring.Node.{Node}
 use Rattle.star.specs.Completing.{missingLeft, completedOf}
 use Rattle.star.specs.Label.{isNone}
 use Rattle.star.specs.Pouring.{pourNode, pourLabel, pourLabels}
@@ -24,7 +25,6 @@ use Rattle.plan.specs.declared.«label_bytes».LabelRead.{LabelRead}
 use Rattle.plan.specs.declared.«label_bytes».LabelRead.the-variants as L
 use Rattle.plan.specs.declared.record.NodeRead.{NodeRead}
 use Rattle.plan.specs.declared.record.NodeRead.the-variants as N
-use Rattle.plan.specs.declared.record.Node.{Node}
 use Rattle.plan.specs.declared.record.RecordAnswer.{RecordAnswer}
 use Rattle.plan.specs.EndBytes.{Ends as ReadEnds, good, bad, readEnds}
 use Rattle.plan.specs.LabelBytes.{labelAt}
@@ -56,7 +56,7 @@ nodeWith (C.Is a) C.Bad p q = N.Bad
 nodeWith (C.Is a) (C.Is b) C.Bad q = N.Bad
 nodeWith (C.Is a) (C.Is b) (C.Is p) C.Bad = N.Bad
 nodeWith (C.Is a) (C.Is b) (C.Is p) (C.Is q) =
-    cond (isNone a || isNone b) N.Bad (N.Is (record { a = a; b = b; p = p; q = q }))
+    cond (isNone a || isNone b) N.Bad (N.Is (record { «on_a» = a; «on_b» = b; «area_a» = p; «area_b» = q }))
 
 abbrev pub nodeAt : List ℕ → NodeRead
 nodeAt s = nodeWith (codedOf (byteAt s 4)) (codedOf (byteAt s 5)) (codedOf (byteAt s 6)) (codedOf (byteAt s 7))
@@ -66,7 +66,7 @@ abbrev pub withEnds : List ℕ → ℕ → Node → ReadEnds → RecordAnswer
 withEnds ns used n (bad r) = refusedAs r ns
 withEnds ns used n (good es) =
     unless (missingLeft (joinedOf es)) MissingLeft ns
-    (acceptedAs used (pourLabels (pourNode (matrixOf ns) (n .a) (n .b)) (completedOf (n .p) (n .q) (joinedOf es))))
+    (acceptedAs used (pourLabels (pourNode (matrixOf ns) (n .«on_a») (n .«on_b»)) (completedOf (n .«area_a») (n .«area_b») (joinedOf es))))
 
 abbrev pub withNode : List ℕ → List ℕ → NodeRead → RecordAnswer
 withNode ns s N.Bad = refusedAs PositionCode ns

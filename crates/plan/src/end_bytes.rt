@@ -1,20 +1,21 @@
 // Ends, fifteen bytes each: dx, dy, a label. Read one after the other, with the first refusal.
-use crate::label_bytes::LabelRead;
-use crate::label_bytes::label_at;
+use crate::label_bytes::label_fault;
+use crate::label_bytes::label_read;
 use crate::words::signed_of;
 use crate::words::word_at;
 use de9im::refusal::Refusal;
+use star::edge_end::Checked;
 use star::edge_end::Dir;
 use star::edge_end::EdgeEnd;
 use star::edge_end::bad_dir;
-use star::label::Label;
 use star::label::blank;
 ghost use mathlib.Core.Path.{_≡_};
-ghost use mathlib.Core.Bool.{cond};
 ghost use Prim.Native.Nat.{_+_, _*_, _/_, _≤_};
 ghost use lib.ListN.{length, take};
-ghost use Rattle.plan.specs.EndBytes.{dirAt, endWith, endAt, readEnds, endsOf, endsCall};
+ghost use Rattle.plan.specs.EndBytes.{dirAt, readEnds, endsOf, endsCall};
+ghost use Rattle.plan.specs.Reading.{endFault, endRead};
 
+// What an end's bytes say, or the first refusal: only the definitions speak of it.
 pub enum EndRead {
     Is(EdgeEnd),
     Bad(Refusal),
@@ -41,32 +42,24 @@ fn dir_at(s: &[u8], at: usize) -> Dir
     }
 }
 
-fn end_with(d: Dir, l: LabelRead) -> EndRead
-    ensures { λ r. ⌜ r ≡ endWith d l ⌝ }
-{
-    match l {
-        LabelRead::Is(x) => EndRead::Is(EdgeEnd { dir: d, label: x }),
-        LabelRead::Bad(r) => EndRead::Bad(r),
-    }
-}
-
-fn pick(t: bool, a: EndRead, b: EndRead) -> EndRead
-    ensures { λ r. ⌜ r ≡ cond t a b ⌝ }
-{
-    if t { a } else { b }
-}
-
-// The direction first, then the label.
-fn end_at(s: &[u8], at: usize) -> EndRead
+// The first thing that is wrong with an end's bytes: the direction first, then the label.
+fn end_fault(s: &[u8], at: usize) -> Checked
     requires { ⌜ at + 15 ≤ length (now s) ⌝ }
-    ensures { λ r. ⌜ r ≡ endAt (now (s .entry)) at ⌝ }
+    ensures { λ r. ⌜ r ≡ endFault (now (s .entry)) at ⌝ }
+{
+    if bad_dir(dir_at(s, at)) {
+        return Checked::Refused(Refusal::Direction);
+    }
+    label_fault(s, at + 8)
+}
+
+fn end_read(s: &[u8], at: usize) -> EdgeEnd
+    requires { ⌜ at + 15 ≤ length (now s) ⌝ }
+    ensures { λ r. ⌜ r ≡ endRead (now (s .entry)) at ⌝ }
 {
     let d = dir_at(s, at);
-    pick(
-        bad_dir(d),
-        EndRead::Bad(Refusal::Direction),
-        end_with(d, label_at(s, at + 8)),
-    )
+    let l = label_read(s, at + 8);
+    EdgeEnd { dir: d, label: l }
 }
 
 fn no_end() -> EdgeEnd {
@@ -86,11 +79,11 @@ pub(crate) fn ends_at(s: &[u8], at: usize, n: usize) -> EndsRead
     let mut i: usize = 0;
     let mut p = at;
     while i < n {
-        match end_at(s, p) {
-            EndRead::Is(e) => {
-                ends[i] = e;
+        match end_fault(s, p) {
+            Checked::Fine => {
+                ends[i] = end_read(s, p);
             }
-            EndRead::Bad(r) => {
+            Checked::Refused(r) => {
                 return EndsRead {
                     answer: EndsAnswer::Refused(r),
                     ends: ends,

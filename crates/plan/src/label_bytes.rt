@@ -1,16 +1,21 @@
 // A label's seven bytes: kind, then on, left, right for A, then for B. Refused in order: kind (7), codes (6), sides (7).
+// What is wrong is asked first, and then the bytes are read as if they were good: no value is built to be thrown away.
 use de9im::coordinate_position::Coded;
+use de9im::coordinate_position::Position;
 use de9im::coordinate_position::position_coded;
 use de9im::refusal::Refusal;
+use star::edge_end::Checked;
 use star::label::Label;
 use star::topology_position::Sides;
-use star::topology_position::sides_none;
 ghost use mathlib.Core.Path.{_≡_};
 ghost use Prim.Native.Nat.{_+_, _≤_};
+ghost use lib.Dec.{ltb};
 ghost use lib.ListN.{length};
 ghost use Rattle.de9im.specs.Position.{codedOf};
-ghost use Rattle.plan.specs.LabelBytes.{thenSides, sidesAt, thenLabel, labelAt};
+ghost use Rattle.plan.specs.LabelBytes.{labelAt};
+ghost use Rattle.plan.specs.Reading.{knownOf, goodThree, bareThree, threeRead, labelFault, labelRead};
 
+// What a half's three bytes say, or that one is no code: only the definitions speak of it.
 pub enum SidesRead {
     Is(Sides),
     Bad,
@@ -27,53 +32,80 @@ pub(crate) fn coded(b: u8) -> Coded
     position_coded(b as u32)
 }
 
-fn then_sides(p: Coded, q: Coded, r: Coded) -> SidesRead
-    ensures { λ x. ⌜ x ≡ thenSides p q r ⌝ }
+// The position of a code that is good; a code above 3 never gets here, and would be Outside.
+fn known(b: u8) -> Position
+    ensures { λ r. ⌜ r ≡ knownOf b ⌝ }
 {
-    let Coded::Is(on) = p else {
-        return SidesRead::Bad;
-    };
-    let Coded::Is(left) = q else {
-        return SidesRead::Bad;
-    };
-    let Coded::Is(right) = r else {
-        return SidesRead::Bad;
-    };
-    SidesRead::Is(Sides {
-        on: on,
-        left: left,
-        right: right,
-    })
-}
-
-fn sides_at(s: &[u8], at: usize) -> SidesRead
-    requires { ⌜ at + 3 ≤ length (now s) ⌝ }
-    ensures { λ r. ⌜ r ≡ sidesAt (now (s .entry)) at ⌝ }
-{
-    then_sides(coded(s[at]), coded(s[at + 1]), coded(s[at + 2]))
-}
-
-fn then_label(kind: u8, p: SidesRead, q: SidesRead) -> LabelRead
-    ensures { λ x. ⌜ x ≡ thenLabel kind p q ⌝ }
-{
-    if 1 < kind {
-        return LabelRead::Bad(Refusal::LabelKind);
+    match b {
+        0 => Position::None,
+        1 => Position::Inside,
+        2 => Position::OnBoundary,
+        _ => Position::Outside,
     }
-    let SidesRead::Is(a) = p else {
-        return LabelRead::Bad(Refusal::PositionCode);
-    };
-    let SidesRead::Is(b) = q else {
-        return LabelRead::Bad(Refusal::PositionCode);
-    };
-    let area = 0 < kind;
-    if area | (sides_none(a) & sides_none(b)) {
-        LabelRead::Is(Label {
-            area: area,
-            a: a,
-            b: b,
-        })
+}
+
+fn good_code(b: u8) -> bool
+    ensures { λ r. ⌜ r ≡ ltb b 4 ⌝ }
+{
+    b < 4
+}
+
+// The codes of a half: on, left, right.
+fn good_three(s: &[u8], at: usize) -> bool
+    requires { ⌜ at + 3 ≤ length (now s) ⌝ }
+    ensures { λ r. ⌜ r ≡ goodThree (now (s .entry)) at ⌝ }
+{
+    good_code(s[at]) & (good_code(s[at + 1]) & good_code(s[at + 2]))
+}
+
+// A half without sides.
+fn bare_three(s: &[u8], at: usize) -> bool
+    requires { ⌜ at + 3 ≤ length (now s) ⌝ }
+    ensures { λ r. ⌜ r ≡ bareThree (now (s .entry)) at ⌝ }
+{
+    (s[at + 1] == 0) & (s[at + 2] == 0)
+}
+
+fn three_read(s: &[u8], at: usize) -> Sides
+    requires { ⌜ at + 3 ≤ length (now s) ⌝ }
+    ensures { λ r. ⌜ r ≡ threeRead (now (s .entry)) at ⌝ }
+{
+    Sides {
+        on: known(s[at]),
+        left: known(s[at + 1]),
+        right: known(s[at + 2]),
+    }
+}
+
+pub(crate) fn label_read(s: &[u8], at: usize) -> Label
+    requires { ⌜ at + 7 ≤ length (now s) ⌝ }
+    ensures { λ r. ⌜ r ≡ labelRead (now (s .entry)) at ⌝ }
+{
+    Label {
+        area: 0 < s[at],
+        a: three_read(s, at + 1),
+        b: three_read(s, at + 4),
+    }
+}
+
+// The first thing that is wrong with a label's bytes.
+pub(crate) fn label_fault(s: &[u8], at: usize) -> Checked
+    requires { ⌜ at + 7 ≤ length (now s) ⌝ }
+    ensures { λ r. ⌜ r ≡ labelFault (now (s .entry)) at ⌝ }
+{
+    let kind = s[at];
+    if 1 < kind {
+        return Checked::Refused(Refusal::LabelKind);
+    }
+    let good = good_three(s, at + 1) & good_three(s, at + 4);
+    if !good {
+        return Checked::Refused(Refusal::PositionCode);
+    }
+    let bare = bare_three(s, at + 1) & bare_three(s, at + 4);
+    if (0 < kind) | bare {
+        Checked::Fine
     } else {
-        LabelRead::Bad(Refusal::LabelKind)
+        Checked::Refused(Refusal::LabelKind)
     }
 }
 
@@ -81,5 +113,8 @@ pub(crate) fn label_at(s: &[u8], at: usize) -> LabelRead
     requires { ⌜ at + 7 ≤ length (now s) ⌝ }
     ensures { λ r. ⌜ r ≡ labelAt (now (s .entry)) at ⌝ }
 {
-    then_label(s[at], sides_at(s, at + 1), sides_at(s, at + 4))
+    match label_fault(s, at) {
+        Checked::Fine => LabelRead::Is(label_read(s, at)),
+        Checked::Refused(r) => LabelRead::Bad(r),
+    }
 }

@@ -8,18 +8,13 @@ use crate::label_bytes::label_at;
 use crate::words::half_of;
 use crate::words::wide;
 use de9im::cells::Cells;
-use de9im::cells::from_cells;
-use de9im::cells::to_cells;
 use de9im::coordinate_position::Coded;
-use de9im::coordinate_position::Position;
-use de9im::intersection_matrix::IntersectionMatrix;
 use de9im::refusal::Refusal;
 use star::edge_end::EdgeEnd;
 use star::edge_end_bundle_star::StarAnswer;
-use star::edge_end_bundle_star::star_of;
-use star::pouring::pour_label;
-use star::pouring::pour_labels;
-use star::pouring::pour_node;
+use star::pouring::Node;
+use star::pouring::pour_edge;
+use star::pouring::pour_star;
 use star::topology_position::is_none;
 ghost use mathlib.Core.Path.{_≡_};
 ghost use Prim.Native.Nat.{_+_, _*_, _≤_};
@@ -27,20 +22,12 @@ ghost use lib.ListN.{length, take};
 ghost use Rattle.star.specs.Ends.{Sound};
 ghost use Rattle.plan.specs.EndBytes.{good};
 ghost use Rattle.plan.specs.Words.{byteAt, halfAt};
-ghost use Rattle.plan.specs.Record.{refusedAs, acceptedAs, edgeWith, edgeOf, nodeWith, nodeAt, withEnds, withNode, nodeOf, recordOf};
+ghost use Rattle.plan.specs.Record.{refusedAs, edgeWith, edgeOf, nodeWith, nodeAt, withEnds, withNode, nodeOf, recordOf};
 
 // The answer to a record's bytes, with the matrix beside it: a refusal hands the given numbers back as they came.
 pub struct RecordAnswer {
     pub answer: Answer,
     pub cells: Cells,
-}
-
-// Where a node lies: its position in A and in B, and its area positions, none for no area.
-pub struct Node {
-    pub a: Position,
-    pub b: Position,
-    pub p: Position,
-    pub q: Position,
 }
 
 pub enum NodeRead {
@@ -57,20 +44,14 @@ fn refused(r: Refusal, cells: Cells) -> RecordAnswer
     }
 }
 
-fn accepted(used: usize, m: IntersectionMatrix) -> RecordAnswer
-    ensures { λ x. ⌜ x ≡ acceptedAs used m ⌝ }
-{
-    RecordAnswer {
-        answer: Answer::Used(used),
-        cells: to_cells(m),
-    }
-}
-
 fn edge_with(cells: Cells, l: LabelRead) -> RecordAnswer
     ensures { λ x. ⌜ x ≡ edgeWith cells l ⌝ }
 {
     match l {
-        LabelRead::Is(x) => accepted(11, pour_label(from_cells(cells), x)),
+        LabelRead::Is(x) => RecordAnswer {
+            answer: Answer::Used(11),
+            cells: pour_edge(cells, x),
+        },
         LabelRead::Bad(r) => refused(r, cells),
     }
 }
@@ -105,10 +86,10 @@ fn node_with(a: Coded, b: Coded, p: Coded, q: Coded) -> NodeRead
         return NodeRead::Bad;
     }
     NodeRead::Is(Node {
-        a: na,
-        b: nb,
-        p: pa,
-        q: pb,
+        on_a: na,
+        on_b: nb,
+        area_a: pa,
+        area_b: pb,
     })
 }
 
@@ -124,19 +105,14 @@ fn poured(cells: Cells, used: usize, at: Node, ends: [EdgeEnd; 32], n: usize) ->
     requires { ⌜ Sound ends n ⌝ }
     ensures { λ x. ⌜ x ≡ withEnds cells used at (good (take n ends)) ⌝ }
 {
-    let a = at.a;
-    let b = at.b;
-    let p = at.p;
-    let q = at.q;
-    let star = star_of(ends, n, p, q);
-    let answer = star.answer;
-    let labels = star.labels;
-    let count = star.count;
+    let done = pour_star(cells, at, ends, n);
+    let answer = done.answer;
+    let raised = done.cells;
     match answer {
-        StarAnswer::Completed => accepted(
-            used,
-            pour_labels(pour_node(from_cells(cells), a, b), labels, count),
-        ),
+        StarAnswer::Completed => RecordAnswer {
+            answer: Answer::Used(used),
+            cells: raised,
+        },
         StarAnswer::Refused(r) => refused(r, cells),
     }
 }

@@ -1,18 +1,15 @@
 -- Document 01's worked examples that are about bundles and stars: P14 and P1. Assumes nothing.
-use Prim.Native.Nat.{ℕ}
 use mathlib.Core.Path.{_≡_, refl}
 use mathlib.Core.Bool.{true, false}
 use mathlib.Core.List.{List, [], _∷_}
 use lib.IntN.{ℤ, pos, negsuc}
-use Rattle.de9im.specs.declared.«coordinate_position».Position.{Position}
-use Rattle.de9im.specs.declared.«coordinate_position».Position.the-variants.{None, Inside, OnBoundary, Outside}
+use Rattle.de9im.specs.declared.«coordinate_position».Position.the-variants.{Inside, OnBoundary, Outside}
 use Rattle.de9im.specs.Cells.{cellsOf}
 use Rattle.de9im.specs.Matrix.{startMatrix}
 use Rattle.star.specs.declared.«topology_position».Sides.{Sides}
-use Rattle.star.specs.declared.label.Geometry.{Geometry}
-use Rattle.star.specs.declared.label.Geometry.the-variants.{A, B}
+use Rattle.star.specs.declared.label.Geometry.the-variants.{A}
 use Rattle.star.specs.declared.«edge_end».EdgeEnd.{EdgeEnd}
-use Rattle.star.specs.Label.{halfOf, noSides}
+use Rattle.star.specs.Label.{noSides}
 use Rattle.star.specs.Direction.{orderOf}
 use Rattle.star.specs.Bundle.{count, onJoined, sideJoined, halfJoined, joinOf}
 use Rattle.star.specs.Star.{insertDir, dirsFrom, keep, joinedOf}

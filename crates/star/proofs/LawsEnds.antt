@@ -1,7 +1,7 @@
 -- Checking each end in turn, and what ends that pass are known to be. Assumes nothing.
-use Prim.Native.Nat.{ℕ, zero, suc, _+_, _≤_, _<_}
-use mathlib.Core.Path.{_≡_, refl, sym, ap, _∙_}
-use mathlib.Core.Bool.{Bool, true, false, cond, _||_}
+use Prim.Native.Nat.{ℕ, _+_, _≤_, _<_}
+use mathlib.Core.Path.{_≡_, refl, sym, _∙_}
+use mathlib.Core.Bool.{Bool, true, false, _||_}
 use mathlib.Core.List.{List, [], _∷_}
 use native.Mathlib.Omega.{arith}
 use borrow.Author.Tests.{ltb-false}
@@ -9,12 +9,12 @@ use lib.Dec.{ltb}
 use lib.ListN.{length, take, drop, getD}
 use lib.Seq.{getD-take, length-take-le}
 use Rattle.de9im.specs.declared.refusal.Refusal.{Refusal}
-use Rattle.de9im.specs.declared.refusal.Refusal.the-variants.{Ends, LabelKind, Direction}
+use Rattle.de9im.specs.declared.refusal.Refusal.the-variants.{Ends, Direction}
 use Rattle.star.specs.declared.«edge_end».EdgeEnd.{EdgeEnd}
 use Rattle.star.specs.declared.«edge_end».Checked.{Checked}
 use Rattle.star.specs.declared.«edge_end».Checked.the-variants.{Fine, Refused}
 use Rattle.star.specs.Direction.{zeroDir}
-use Rattle.star.specs.Ends.{far, badDir, lineWithSide, faultOf, orFault, firstFault, checkedOf, noEnd, dirAt, Sound}
+use Rattle.star.specs.Ends.{far, badDir, faultOf, orFault, firstFault, checkedOf, noEnd, Sound}
 use Rattle.star.proofs.LawsLists.{rest, none-left}
 use Rattle.star.proofs.LawsOrder.{All, none, more, all-at}
 

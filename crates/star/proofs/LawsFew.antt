@@ -1,8 +1,8 @@
 -- A star has no more bundles than ends, and its answer holds the completed labels. Assumes nothing.
 use Prim.Native.Nat.{ℕ, suc, _+_, _-_, _≤_}
-use mathlib.Core.Path.{_≡_, refl, sym, ap, _∙_}
-use mathlib.Core.Bool.{Bool, true, false, cond}
-use mathlib.Core.List.{List, [], _∷_, map}
+use mathlib.Core.Path.{_≡_, refl, sym, _∙_}
+use mathlib.Core.Bool.{Bool, true, false}
+use mathlib.Core.List.{List, [], _∷_}
 use native.Mathlib.Omega.{arith}
 use lib.ListN.{length, take, replicate, length-map}
 use lib.Seq.{take-at}
@@ -14,12 +14,12 @@ use Rattle.star.specs.declared.«edge_end».Order.the-variants.{Before, 
 use Rattle.star.specs.declared.label.Label.{Label}
 use Rattle.star.specs.declared.«edge_end_bundle_star».StarAnswer.the-variants.{Completed, Refused}
 use Rattle.de9im.specs.declared.refusal.Refusal.the-variants.{MissingLeft}
-use Rattle.star.specs.Label.{blank, padded}
+use Rattle.star.specs.Label.{blank}
 use Rattle.star.specs.Direction.{orderOf}
 use Rattle.star.specs.Star.{putBy, insertDir, dirsFrom, dirsOf, bundleAt, bundlesOf, joinedOf}
 use Rattle.star.specs.Bundle.{joinOf}
 use Rattle.star.specs.Completing.{missingLeft, walkedOf, filledOf, completedOf}
-use Rattle.star.specs.Calls.{refusedStar, completedStar, starOf}
+use Rattle.star.specs.Calls.{completedStar, starOf}
 use Rattle.star.proofs.LawsStar.{walked-length}
 
 put-length : (o : Order) (d x : Dir) (xs r : List Dir) → length r ≤ suc (length xs) → length (putBy o d x xs r) ≤ suc (length (x ∷ xs))

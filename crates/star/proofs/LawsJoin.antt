@@ -1,5 +1,4 @@
 -- A join doesn't depend on the order of its ends. Assumes nothing.
-use Prim.Native.Nat.{ℕ, _+_}
 use mathlib.Core.Path.{_≡_, refl, _∙_}
 use mathlib.Core.Bool.{Bool}
 use mathlib.Core.List.{List, [], _∷_}
@@ -9,7 +8,7 @@ use Rattle.star.specs.declared.«topology_position».Side.the-variants.{
 use Rattle.star.specs.declared.label.Geometry.{Geometry}
 use Rattle.star.specs.declared.label.Geometry.the-variants.{A, B}
 use Rattle.star.specs.declared.«edge_end».EdgeEnd.{EdgeEnd}
-use Rattle.star.specs.Bundle.{bit, count, isArea, onIs, sideIs, onJoined, sideJoined, halfJoined, joinOf}
+use Rattle.star.specs.Bundle.{count, isArea, onIs, sideIs, onJoined, sideJoined, halfJoined, joinOf}
 
 -- one list is the other in another order
 pub data Shuffled {X : Type 0} : List X → List X → Type 0 where

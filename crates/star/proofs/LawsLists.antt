@@ -1,25 +1,12 @@
 -- Laws of lists for loops over arrays, over any element type. Assumes nothing.
 use Prim.Native.Nat.{ℕ, zero, suc, _+_, _-_, _≤_, _<_}
 use mathlib.Core.Path.{_≡_, refl, sym, ap, _∙_}
-use mathlib.Core.List.{List, [], _∷_, _++_, map, append-assoc}
+use mathlib.Core.List.{List, [], _∷_, _++_, map}
 use native.Mathlib.Omega.{arith}
 use native.Mathlib.Nat.{add-zero}
 use native.Mathlib.Numerals.{add-one}
-use lib.ListN.{
-  length,
-  take,
-  drop,
-  getD,
-  set,
-  replicate,
-  length-append,
-  length-map,
-  length-take,
-  length-set,
-  drop-of-length-le,
-  take-append-drop,
-}
-use Rattle.star.specs.Walking.{scan}
+use lib.ListN.{length, take, drop, getD, set, replicate, length-append, drop-of-length-le}
+use Rattle.star.specs.Walking.{scan, after}
 use lib.Seq.{drop-cons, getD-take, getD-drop, drop-drop, drop-set-lt, take-suc, take-suc-set, append-snoc, length-take-le, set-at}
 
 module _ {X : Type 0} (z : X) where
@@ -90,31 +77,19 @@ pad-step z n xs v i e h =
     rw m (set-at xs z (replicate (n - length (xs ++ (v ∷ []))) z) v i e ∙ sym
     (append-snoc xs v (replicate (n - length (xs ++ (v ∷ []))) z)))
 
--- a loop that fills an array of size n with f of each element of a list
-pub filled-next : {X Y : Type 0} (z : X) (y : Y) (n : ℕ) (f : Y → X) (l : List Y) (i : ℕ) → i < length l → i < n
-    → set (padTo n z (map f (take i l))) i (f (getD l i y)) ≡ padTo n z (map f (take (i + 1) l))
-filled-next z y n f l i h k =
-    let e : length (map f (take i l)) ≡ i = length-map (take i l) f ∙ length-take-le i l (omega arith) in
-    pad-step z n (map f (take i l)) (f (getD l i y)) i e k ∙ ap (padTo n z)
-    (sym (ap (map f) (take-more y l i h) ∙ map-append f (take i l) (getD l i y ∷ [])))
+-- a walk with a state, with one element more at its end
+module _ {S X : Type 0} (f : S → X → X) (h : S → X → S) where
+  pub scan-snoc : (s : S) (xs : List X) (x : X) → scan f h s (xs ++ (x ∷ [])) ≡ scan f h s xs ++ (f (after h s xs) x ∷ [])
+  unfolding scan after
+  scan-snoc s [] x = refl
+  scan-snoc s (y ∷ ys) x = ap (λ l. f s y ∷ l) (scan-snoc (h s y) ys x)
 
--- a walk over the first n of an array that changes each element and carries a state
-module _ {S X : Type 0} (z : X) (f : S → X → X) (h : S → X → S) (a b : List X) (s : S) (i n : ℕ) where
-  pub scan-step : i < n → n ≤ length b → length a ≡ length b → drop i a ≡ drop i b
-      → take (i + 1) (set a i (f s (getD a i z))) ++ scan f h (h s (getD a i z)) (drop (i + 1) (take n b)) ≡ take i a ++ scan f h s
-      (drop i (take n b))
+  pub after-snoc : (s : S) (xs : List X) (x : X) → after h s (xs ++ (x ∷ [])) ≡ h (after h s xs) x
+  unfolding after
+  after-snoc s [] x = refl
+  after-snoc s (y ∷ ys) x = after-snoc (h s y) ys x
+
+  pub scan-length : (s : S) (xs : List X) → length (scan f h s xs) ≡ length xs
   unfolding scan
-  scan-step p k l e =
-      let g : i < length a = omega arith in
-      rw (head-same z a b i e, rest z b i n p k, add-one, take-suc-set a i (f s (getD b i z)) g)
-      (append-snoc (take i a) (f s (getD b i z)) (scan f h (h s (getD b i z)) (drop (suc i) (take n b))))
-
-  pub scan-end : i ≡ n → n ≤ length b → drop i a ≡ drop i b → a ≡ (take i a ++ scan f h s (drop i (take n b))) ++ drop n b
-  unfolding scan
-  scan-end e k d = rw (none-left z b i n (omega arith) k, append-nil (take i a), ← e, ← d) (sym (take-append-drop i a))
-
--- a walk without a state maps
-pub scan-map : {X : Type 0} (f : X → X) (xs : List X) → scan {S = ℕ} (λ s x. f x) (λ s x. s) 0 xs ≡ map f xs
-unfolding scan
-scan-map f [] = refl
-scan-map f (x ∷ xs) = ap (λ l. f x ∷ l) (scan-map f xs)
+  scan-length s [] = refl
+  scan-length s (x ∷ xs) = ap suc (scan-length (h s x) xs)

@@ -1,37 +1,23 @@
 -- Pouring is raising: each cell becomes the larger of what it was and what is poured into it. Assumes nothing.
-use Prim.Native.Nat.{ℕ, zero, suc, _+_, _≤_, _<_, max}
+use Prim.Native.Nat.{ℕ, _≤_, _<_, max}
 use mathlib.Core.Path.{_≡_, refl, sym, ap, _∙_}
 use mathlib.Core.Bool.{Bool, true, false, cond, _&&_, and-false}
-use mathlib.Core.List.{List, [], _∷_, _++_}
+use mathlib.Core.List.{List, [], _∷_}
 use native.Mathlib.Omega.{arith}
-use borrow.Author.Tests.{leb-true, eqb-true, eqb-false, ltb-true, ltb-false, lt-ltb, le-ltb, eq-eqb, ne-eqb}
-use lib.Dec.{eqb, ltb, leb}
-use lib.ListN.{length, take, drop, getD, set, length-set}
-use lib.Seq.{getD-set-same, getD-set-other, set-getD}
+use borrow.Author.Tests.{eqb-true, eqb-false, ltb-false, ne-eqb}
+use lib.Dec.{eqb, ltb}
+use lib.ListN.{length, getD, set, length-set}
+use lib.Seq.{getD-set-same, getD-set-other}
 use Rattle.de9im.specs.declared.dimensions.Dimensions.{Dimensions}
-use Rattle.de9im.specs.declared.dimensions.Dimensions.the-variants.{Empty, ZeroDimensional, OneDimensional, TwoDimensional}
+use Rattle.de9im.specs.declared.dimensions.Dimensions.the-variants.{Empty, OneDimensional, TwoDimensional}
 use Rattle.de9im.specs.declared.«coordinate_position».Position.{Position}
-use Rattle.de9im.specs.declared.«coordinate_position».Position.the-variants.{None, Inside, OnBoundary, Outside}
 use Rattle.de9im.specs.Dimension.{dimNo, larger}
 use Rattle.de9im.specs.Position.{rowOf}
-use Rattle.de9im.specs.Matrix.{Matrix, Shaped, cellAt, putAt, inBoth, setOf, atLeastOf}
+use Rattle.de9im.specs.Matrix.{Matrix, Shaped, cellAt, putAt, atLeastOf}
 use Rattle.de9im.proofs.LawsDimension.{larger-max}
 use Rattle.star.specs.declared.label.Label.{Label}
-use Rattle.star.specs.Label.{blank}
 use Rattle.star.specs.declared.«topology_position».Side.the-variants.{On, Left, Right}
-use Rattle.star.specs.Pouring.{pourSide, pourLabel, pourLabels, into, labelInto, labelsInto, heldOf}
-use Rattle.star.proofs.LawsLists.{rest, none-left}
-
--- the labels that are left to pour
-module _ (m : Matrix) (ls : List Label) (n i : ℕ) where
-  pub pour-next : i < n → n ≤ length ls → pourLabels m (drop i (take n ls)) ≡ pourLabels (pourLabel m (getD ls i blank))
-      (drop (i + 1) (take n ls))
-  unfolding pourLabels
-  pour-next h k = rw (rest blank ls i n h k) refl
-
-  pub pour-end : n ≤ i → n ≤ length ls → pourLabels m (drop i (take n ls)) ≡ m
-  unfolding pourLabels
-  pour-end h k = rw (none-left blank ls i n h k) refl
+use Rattle.star.specs.Pouring.{pourSide, pourLabel, pourLabels, into, labelInto, labelsInto}
 
 -- the number in a cell
 abbrev pub numberIn : Matrix → ℕ → ℕ → ℕ
@@ -160,25 +146,3 @@ labels-cell m (l ∷ ls) s i j h k =
 -- so pouring only raises
 pub labels-raise : (m : Matrix) (ls : List Label) → Shaped m → (i j : ℕ) → i < 3 → j < 3 → numberIn m i j ≤ numberIn (pourLabels m ls) i j
 labels-raise m ls s i j h k = omega (arith, labels-cell m ls s i j h k)
-
--- where nothing is to be raised, raising changes nothing
-held-put : (m : Matrix) (i j : ℕ) (d : Dimensions) (t : Bool) → cond t (leb (dimNo d) (dimNo (cellAt m i j))) true ≡ true
-    → cond t (putAt m i j (larger (cellAt m i j) d)) m ≡ m
-held-put m i j d false h = refl
-held-put m i j d true h =
-    let l : larger (cellAt m i j) d ≡ cellAt m i j = rw (le-ltb (dimNo (cellAt m i j)) (dimNo d)
-    (leb-true (dimNo d) (dimNo (cellAt m i j)) h)) refl in
-    rw (l, set-getD (getD m i []) j Empty, set-getD m i []) refl
-
-pub held-same : (m : Matrix) (a b : Position) (d : Dimensions) → heldOf m a b d ≡ true → atLeastOf m a b d ≡ m
-held-same m a b d h = held-put m (rowOf a) (rowOf b) d (ltb (rowOf a) 3 && ltb (rowOf b) 3) h
-
-module _ (m : Matrix) (a b : Position) (d : Dimensions) where
-  pub held-left : 3 ≤ rowOf a → heldOf m a b d ≡ true
-  held-left h = simp (le-ltb _ _ h)
-
-  pub held-right : 3 ≤ rowOf b → heldOf m a b d ≡ true
-  held-right h = simp (le-ltb _ _ h, and-false)
-
-  pub held-cell : rowOf a < 3 → rowOf b < 3 → heldOf m a b d ≡ leb (dimNo d) (dimNo (cellAt m (rowOf a) (rowOf b)))
-  held-cell h k = simp (lt-ltb _ _ h, lt-ltb _ _ k)

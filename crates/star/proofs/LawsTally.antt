@@ -1,7 +1,7 @@
 -- Counts kept as digits are the counts of the definition, and adding an end counts it. Assumes nothing.
-use Prim.Native.Nat.{ℕ, zero, suc, _+_, _*_, _/_, _%_, _≤_, _<_}
-use mathlib.Core.Path.{_≡_, refl, sym, ap, _∙_}
-use mathlib.Core.Bool.{Bool, true, false, cond, _&&_, and-false}
+use Prim.Native.Nat.{ℕ, _+_, _*_, _/_, _%_, _≤_, _<_}
+use mathlib.Core.Path.{_≡_, refl, _∙_}
+use mathlib.Core.Bool.{Bool, true, false, _&&_}
 use mathlib.Core.List.{List, [], _∷_, _++_}
 use native.Mathlib.Omega.{arith}
 use native.Mathlib.Nat.{add-mul-mod-self-left, add-mul-div-left, mod-eq-of-lt, div-eq-of-lt}
@@ -13,8 +13,7 @@ use Rattle.star.specs.declared.«topology_position».Sides.{Sides}
 use Rattle.star.specs.declared.label.Geometry.{Geometry}
 use Rattle.star.specs.declared.label.Geometry.the-variants.{A, B}
 use Rattle.star.specs.declared.«edge_end».EdgeEnd.{EdgeEnd}
-use Rattle.star.specs.declared.«edge_end_bundle».Tally.{Tally}
-use Rattle.star.specs.Label.{halfOf, sideOf, isPos}
+use Rattle.star.specs.Label.{halfOf, isPos}
 use Rattle.star.specs.Bundle.{bit, count, isArea, onIs, sideIs, onFrom, sideFrom, onJoined, sideJoined, halfJoined, joinOf}
 use Rattle.star.specs.Tally.{digits, numberFor, tallyOf, onMark, sideMark, markOf, added, half, labelOf, Small}
 

@@ -3,7 +3,7 @@
 use Prim.Native.Nat.{ℕ}
 use mathlib.Core.Path.{_≡_, refl, sym, ap, _∙_}
 use mathlib.Core.Bool.{Bool, true, false, cond, not, _&&_, _||_, or-false, or-true, or-assoc}
-use mathlib.Core.List.{List, [], _∷_, _++_, map}
+use mathlib.Core.List.{List, [], _∷_, _++_}
 use mathlib.Core.Logic.{_⊎_, inl, inr}
 use native.Mathlib.Omega.{arith}
 use Rattle.de9im.specs.declared.«coordinate_position».Position.{Position}
@@ -14,23 +14,18 @@ use Rattle.star.specs.declared.label.Geometry.the-variants.{A, B}
 use Rattle.star.specs.declared.label.Label.{Label}
 use Rattle.star.specs.declared.«edge_end_bundle_star».Current.{Current}
 use Rattle.star.specs.Label.{halfOf, isNone, orElse}
-use Rattle.star.specs.Completing.{
-  areaLeft,
-  startOf,
-  walkSides,
-  walkNext,
-  putHalf,
-  walkFrom,
-  walkOf,
-  walkedOf,
-  any,
-  hasLeft,
-  rightAlone,
-  missing,
-  missingLeft,
-  lastOf,
-}
-use Rattle.star.specs.Walking.{scan, walkLabel, nextLabel, walkBoth, foundOf, lookedOf, seenOf, lookLabel}
+use Rattle.star.specs.Completing.{areaLeft, startOf, walkSides, walkNext, putHalf, walkFrom, walkOf, walkedOf, any, hasLeft, rightAlone, missingLeft, lastOf}
+use Rattle.star.specs.Walking.{scan, foundOf, lookedOf, lookLabel}
+
+-- both walks of document 01 in one
+unfoldable pub walkLabel : Current → Label → Label
+walkLabel c l = record { area = l .area; a = walkSides (l .area) (c .a) (l .a); b = walkSides (l .area) (c .b) (l .b) }
+
+unfoldable pub nextLabel : Current → Label → Current
+nextLabel c l = record { a = walkNext (l .area) (c .a) (l .a); b = walkNext (l .area) (c .b) (l .b) }
+
+abbrev pub walkBoth : Current → List Label → List Label
+walkBoth = scan walkLabel nextLabel
 
 -- one walk for both
 both-walk : (p q : Position) (ls : List Label) → walkFrom B q (walkFrom A p ls) ≡ walkBoth (record { a = p; b = q }) ls
@@ -45,7 +40,7 @@ unfolding walkFrom startOf
 start-kept p [] = refl
 start-kept p (l ∷ ls) = rw (start-kept (walkNext (l .area) p (l .a)) ls) refl
 
-or-none : (p q : Position) → orElse p q ≡ None → (p ≡ None) × (q ≡ None)
+pub or-none : (p q : Position) → orElse p q ≡ None → (p ≡ None) × (q ≡ None)
 or-none None q e = (refl, e)
 or-none Inside q e = (e, absurd (never e))
   where
@@ -60,14 +55,14 @@ or-none Outside q e = (e, absurd (never e))
     never : Outside ≡ None → ⊥
     never f = let z : _≡_ {A = ℕ} 0 1 = cc in omega arith
 
-or-self : (p : Position) → orElse p None ≡ p
+pub or-self : (p : Position) → orElse p None ≡ p
 or-self None = refl
 or-self Inside = refl
 or-self OnBoundary = refl
 or-self Outside = refl
 
 -- a none, or else
-by-none : (p : Position) → (isNone p ≡ false) ⊎ (p ≡ None)
+pub by-none : (p : Position) → (isNone p ≡ false) ⊎ (p ≡ None)
 by-none None = inr refl
 by-none Inside = inl refl
 by-none OnBoundary = inl refl
@@ -85,7 +80,7 @@ idle-sides true s e = go (by-none (s .right))
     go (inl h) = simp (or-self (s .on), h)
     go (inr h) = same-sides s (or-self (s .on)) (rw h (sym e)) (rw h refl)
 
-idle-next : (area : Bool) (s : Sides) → cond area (s .left) None ≡ None → walkNext area None s ≡ None
+pub idle-next : (area : Bool) (s : Sides) → cond area (s .left) None ≡ None → walkNext area None s ≡ None
 idle-next false s e = refl
 idle-next true s e = go (isNone (s .right)) refl
   where
@@ -104,7 +99,7 @@ idle g (l ∷ ls) e =
     let h = or-none (startOf g ls) (areaLeft g l) e in
     rw (idle-sides (l .area) (halfOf g l) (h .1), same-half g l, idle-next (l .area) (halfOf g l) (h .1), idle g ls (h .0)) refl
 
-is-none : (p : Position) → isNone p ≡ true → p ≡ None
+pub is-none : (p : Position) → isNone p ≡ true → p ≡ None
 is-none None e = refl
 is-none Inside e = let z : _≡_ {A = ℕ} 0 1 = cc in absurd (omega arith)
 is-none OnBoundary e = let z : _≡_ {A = ℕ} 0 1 = cc in absurd (omega arith)
@@ -124,7 +119,7 @@ pub walked-both : (ls : List Label) → walkedOf ls ≡ walkBoth (record { a = s
 walked-both ls =
     walk-start B (walkOf A ls) ∙ rw (walk-start A ls, start-kept (startOf A ls) ls) (both-walk (startOf A ls) (startOf B ls) ls)
 
-or-three : (p q r : Position) → orElse (orElse p q) r ≡ orElse p (orElse q r)
+pub or-three : (p q r : Position) → orElse (orElse p q) r ≡ orElse p (orElse q r)
 or-three None q r = refl
 or-three Inside q r = refl
 or-three OnBoundary q r = refl
@@ -161,7 +156,7 @@ area-left : (area : Bool) (p : Position) → not (isNone (cond area p None)) ≡
 area-left true p = refl
 area-left false p = refl
 
-start-left : (g : Geometry) (ls : List Label) → not (isNone (startOf g ls)) ≡ any (hasLeft g) ls
+pub start-left : (g : Geometry) (ls : List Label) → not (isNone (startOf g ls)) ≡ any (hasLeft g) ls
 unfolding startOf any
 start-left g [] = refl
 start-left g (l ∷ ls) =

@@ -7,9 +7,11 @@ pub mod LawsOrder
 pub mod LawsLists
 pub mod LawsGather
 pub mod LawsWalk
+pub mod LawsComplete
 pub mod LawsEnds
 pub mod LawsStar
 pub mod LawsPouring
+pub mod LawsGrid
 pub mod LawsJoin
 pub mod LawsCompleted
 pub mod Examples

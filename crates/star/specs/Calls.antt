@@ -19,8 +19,7 @@ use Rattle.star.specs.declared.«edge_end_bundle_star».StarAnswer.{Star
 use Rattle.star.specs.declared.«edge_end_bundle_star».StarAnswer.the-variants as S
 use Rattle.star.specs.declared.pouring.Node.{Node}
 use Rattle.star.specs.declared.pouring.PouredStar.{PouredStar}
-use Rattle.de9im.specs.Cells.{cellsOf}
-use Rattle.de9im.specs.Matrix.{Matrix}
+use Rattle.de9im.specs.Cells.{cellsOf, matrixOf}
 use Rattle.star.specs.Pouring.{pourNode, pourLabels}
 use Rattle.star.specs.Bundle.{joinOf}
 use Rattle.star.specs.Completing.{missingLeft, completedOf}
@@ -55,12 +54,12 @@ starAs (C.Refused r) s = refusedStar r
 unfoldable pub starCall : List EdgeEnd → ℕ → Position → Position → Labeled
 starCall ends n pa pb = starAs (checkedOf ends n) (starOf (take n ends) pa pb)
 
--- a star poured straight into a matrix: its node, then its labels; a refusal hands the matrix back
+-- a star poured straight into nine numbers: its node, then its labels; a refusal hands the numbers back as they came
 abbrev pub pouredAs : StarAnswer → List ℕ → List ℕ → PouredStar
 pouredAs S.Completed given raised = record { answer = S.Completed; cells = raised }
 pouredAs (S.Refused r) given raised = record { answer = S.Refused r; cells = given }
 
-unfoldable pub pouredStar : Matrix → Node → List EdgeEnd → PouredStar
-pouredStar m p es =
-    pouredAs (starOf es (p .«area_a») (p .«area_b») .answer) (cellsOf m)
-    (cellsOf (pourLabels (pourNode m (p .«on_a») (p .«on_b»)) (completedOf (p .«area_a») (p .«area_b») (joinedOf es))))
+unfoldable pub pouredStar : List ℕ → Node → List EdgeEnd → PouredStar
+pouredStar ns p es =
+    pouredAs (starOf es (p .«area_a») (p .«area_b») .answer) ns
+    (cellsOf (pourLabels (pourNode (matrixOf ns) (p .«on_a») (p .«on_b»)) (completedOf (p .«area_a») (p .«area_b») (joinedOf es))))

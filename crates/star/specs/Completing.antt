@@ -5,10 +5,10 @@
 -- Then, over all bundles: geometry g is collapsed if the last bundle in order is a line bundle whose on for g is OnBoundary.
 -- Every position still none becomes Outside if g is collapsed, else the node's area position for g, or Outside if g is no area."
 -- And number 9: "for one geometry, some area bundle has a left and some has a right but no left".
-use mathlib.Core.Bool.{Bool, true, false, cond, not, _&&_, _||_}
+use mathlib.Core.Bool.{Bool, false, cond, not, _&&_, _||_}
 use mathlib.Core.List.{List, [], _∷_, map}
 use Rattle.de9im.specs.declared.«coordinate_position».Position.{Position}
-use Rattle.de9im.specs.declared.«coordinate_position».Position.the-variants.{None, Inside, OnBoundary, Outside}
+use Rattle.de9im.specs.declared.«coordinate_position».Position.the-variants.{None, OnBoundary, Outside}
 use Rattle.star.specs.declared.«topology_position».Sides.{Sides}
 use Rattle.star.specs.declared.label.Geometry.{Geometry}
 use Rattle.star.specs.declared.label.Geometry.the-variants.{A, B}

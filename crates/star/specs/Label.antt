@@ -1,6 +1,6 @@
 -- Document 01: "Labels. Per geometry an on position and, for an area label, left and right. Both halves have the same kind",
 -- and "a line label with a side" of refusal 7.
-use Prim.Native.Nat.{_-_}
+use Prim.Native.Nat.{ℕ, _-_}
 use mathlib.Core.Bool.{Bool, true, false, cond, _&&_}
 use mathlib.Core.List.{List, _++_}
 use lib.ListN.{length, replicate}
@@ -47,6 +47,13 @@ isPos Outside Outside = true
 isPos Outside Inside = false
 isPos Outside OnBoundary = false
 isPos Outside None = false
+
+-- "Position codes: 0 none, 1 I, 2 B, 3 E."
+abbrev pub codeOf : Position → ℕ
+codeOf None = 0
+codeOf Inside = 1
+codeOf OnBoundary = 2
+codeOf Outside = 3
 
 abbrev pub noSides : Sides
 noSides = record { on = None; left = None; right = None }

@@ -10,3 +10,4 @@ pub mod Walking
 pub mod Ends
 pub mod Calls
 pub mod Pouring
+pub mod Grid

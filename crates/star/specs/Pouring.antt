@@ -1,15 +1,15 @@
 -- Document 01: "Pouring. A node raises (on A, on B) to 0. A label raises (on A, on B) to 1 and, if an area, (left A, left B)
 -- and (right A, right B) to 2. A none skips its cell."
 use Prim.Native.Nat.{ℕ, max}
-use mathlib.Core.Bool.{Bool, true, cond, _&&_}
-use lib.Dec.{eqb, ltb, leb}
+use mathlib.Core.Bool.{cond, _&&_}
+use lib.Dec.{eqb}
 use Rattle.de9im.specs.Dimension.{dimNo}
 use Rattle.de9im.specs.Position.{rowOf}
 use mathlib.Core.List.{List, [], _∷_}
 use Rattle.de9im.specs.declared.dimensions.Dimensions.{Dimensions}
 use Rattle.de9im.specs.declared.dimensions.Dimensions.the-variants.{ZeroDimensional, OneDimensional, TwoDimensional}
 use Rattle.de9im.specs.declared.«coordinate_position».Position.{Position}
-use Rattle.de9im.specs.Matrix.{Matrix, cellAt, atLeastOf}
+use Rattle.de9im.specs.Matrix.{Matrix, atLeastOf}
 use Rattle.star.specs.declared.«topology_position».Side.{Side}
 use Rattle.star.specs.declared.«topology_position».Side.the-variants.{On, Left, Right}
 use Rattle.star.specs.declared.label.Label.{Label}
@@ -46,7 +46,3 @@ labelInto l i j =
 unfoldable pub labelsInto : List Label → ℕ → ℕ → ℕ
 labelsInto [] i j = 0
 labelsInto (l ∷ ls) i j = max (labelInto l i j) (labelsInto ls i j)
-
--- raising (a, b) to d would change nothing: a none, or a cell that is at least d
-abbrev pub heldOf : Matrix → Position → Position → Dimensions → Bool
-heldOf m a b d = cond (ltb (rowOf a) 3 && ltb (rowOf b) 3) (leb (dimNo d) (dimNo (cellAt m (rowOf a) (rowOf b)))) true

@@ -2,11 +2,15 @@
 use crate::edge_end::Checked;
 use crate::edge_end::EdgeEnd;
 use crate::edge_end::check;
-use crate::gather::joined_labels;
+use crate::gather::bundle_label;
+use crate::gather::gather;
 use crate::label::Geometry;
 use crate::label::Label;
 use crate::label::blank;
 use crate::label::half;
+use crate::look::View;
+use crate::look::look;
+use crate::look::missing;
 use crate::topology_position::Sides;
 use crate::topology_position::is_boundary;
 use crate::topology_position::is_none;
@@ -14,16 +18,21 @@ use crate::topology_position::or_else;
 use crate::topology_position::pick;
 use de9im::coordinate_position::Position;
 use de9im::refusal::Refusal;
-ghost use mathlib.Core.Bool.{cond, not, _&&_, _||_};
 ghost use mathlib.Core.Path.{_≡_};
-ghost use mathlib.Core.List.{List, _++_, map};
-ghost use Prim.Native.Nat.{_≤_};
-ghost use lib.ListN.{length, take, drop};
+ghost use lib.ListN.{take};
 ghost use Rattle.star.specs.Label.{padded};
-ghost use Rattle.star.specs.Completing.{walkSides, walkNext, fillSides, fillLabel, collapses, restOf, lastOf};
+ghost use Rattle.star.specs.Gather.{labelsAt, Placed};
+ghost use Rattle.star.specs.Completing.{collapses, restOf};
 ghost use Rattle.star.specs.Ends.{Sound};
-ghost use Rattle.star.specs.Calls.{refusedStar, completedStar, starOf, starCall};
-ghost use Rattle.star.specs.Walking.{walkLabel, nextLabel, walkBoth, seenOf, lookLabel, lookedOf, foundMissing};
+ghost use Rattle.star.specs.Calls.{refusedStar, starOf, starCall};
+ghost use Rattle.star.specs.Walking.{
+  completeSides,
+  completeNext,
+  completeLabel,
+  completeCurrent,
+  completeWalk,
+  startsFrom,
+};
 
 // What is current in the walk, for each geometry.
 pub struct Current {
@@ -31,98 +40,43 @@ pub struct Current {
     pub b: Position,
 }
 
-// What a look over the labels finds for one geometry: where its walk starts, and whether some right has no left beside it.
-pub struct Found {
-    pub start: Position,
-    pub alone: bool,
-}
-
-// A look over the labels, for both geometries.
-pub struct Looked {
-    pub a: Found,
-    pub b: Found,
-}
-
-fn seen(f: Found, area: bool, s: Sides) -> Found
-    ensures { λ r. ⌜ r ≡ seenOf f area s ⌝ }
-{
-    let left = s.left;
-    let right = s.right;
-    let start = f.start;
-    let next = or_else(pick(area, left, Position::None), start);
-    let alone = area & (!is_none(right) & is_none(left));
-    Found {
-        start: next,
-        alone: f.alone | alone,
-    }
-}
-
-fn look_label(w: Looked, l: Label) -> Looked
-    ensures { λ r. ⌜ r ≡ lookLabel w l ⌝ }
-{
-    let a = l.a;
-    let b = l.b;
-    let fa = w.a;
-    let fb = w.b;
-    let sa = seen(fa, l.area, a);
-    let sb = seen(fb, l.area, b);
-    Looked { a: sa, b: sb }
-}
-
-fn look(ls: [Label; 32], n: usize) -> Looked
-    requires { ⌜ n ≤ 32 ⌝ }
-    ensures { λ r. ⌜ r ≡ lookedOf (take n ls) ⌝ }
-{
-    let f = Found {
-        start: Position::None,
-        alone: false,
-    };
-    let mut w = Looked { a: f, b: f };
-    let mut i: usize = 0;
-    while i < n {
-        let l = ls[i];
-        w = look_label(w, l);
-        i += 1;
-    }
-    w
-}
-
-// A half as the walk leaves it.
-fn walk_sides(area: bool, cur: Position, s: Sides) -> Sides
-    ensures { λ r. ⌜ r ≡ walkSides area cur s ⌝ }
+// A half, completed: a none becomes what is current, and so does a left beside a right of none.
+fn complete_sides(area: bool, cur: Position, s: Sides) -> Sides
+    ensures { λ r. ⌜ r ≡ completeSides area cur s ⌝ }
 {
     let on = s.on;
     let left = s.left;
     let right = s.right;
-    let bare = area & is_none(right);
     let o = or_else(on, cur);
-    let l = pick(bare, cur, left);
-    let r = pick(bare, cur, right);
+    let l = pick(is_none(right), cur, or_else(left, cur));
+    let r = or_else(right, cur);
+    let al = pick(area, l, left);
+    let ar = pick(area, r, right);
     Sides {
         on: o,
-        left: l,
-        right: r,
+        left: al,
+        right: ar,
     }
 }
 
 // What is current after it.
-fn walk_next(area: bool, cur: Position, s: Sides) -> Position
-    ensures { λ r. ⌜ r ≡ walkNext area cur s ⌝ }
+fn next_current(area: bool, cur: Position, s: Sides) -> Position
+    ensures { λ r. ⌜ r ≡ completeNext area cur s ⌝ }
 {
     let left = s.left;
     let right = s.right;
-    pick(area & !is_none(right), left, cur)
+    pick(area & !is_none(right), or_else(left, cur), cur)
 }
 
-fn walk_label(c: Current, l: Label) -> Label
-    ensures { λ r. ⌜ r ≡ walkLabel c l ⌝ }
+pub(crate) fn complete_label(c: Current, l: Label) -> Label
+    ensures { λ r. ⌜ r ≡ completeLabel c l ⌝ }
 {
     let a = l.a;
     let b = l.b;
     let ca = c.a;
     let cb = c.b;
-    let sa = walk_sides(l.area, ca, a);
-    let sb = walk_sides(l.area, cb, b);
+    let sa = complete_sides(l.area, ca, a);
+    let sb = complete_sides(l.area, cb, b);
     Label {
         area: l.area,
         a: sa,
@@ -130,84 +84,40 @@ fn walk_label(c: Current, l: Label) -> Label
     }
 }
 
-fn next_label(c: Current, l: Label) -> Current
-    ensures { λ r. ⌜ r ≡ nextLabel c l ⌝ }
+pub(crate) fn next_label(c: Current, l: Label) -> Current
+    ensures { λ r. ⌜ r ≡ completeCurrent c l ⌝ }
 {
     let a = l.a;
     let b = l.b;
     let ca = c.a;
     let cb = c.b;
-    let na = walk_next(l.area, ca, a);
-    let nb = walk_next(l.area, cb, b);
+    let na = next_current(l.area, ca, a);
+    let nb = next_current(l.area, cb, b);
     Current { a: na, b: nb }
 }
 
-fn walked(mut ls: [Label; 32], n: usize, start: Current) -> [Label; 32]
-    requires { ⌜ n ≤ 32 ⌝ }
-    ensures { λ r. ⌜ r ≡ walkBoth start (take n ls) ++ drop n ls ⌝ }
+// The labels of n bundles completed in one walk, with blanks behind them.
+fn complete(
+    order: &[usize; 32],
+    areas: &[u64; 32],
+    a: &[u64; 32],
+    b: &[u64; 32],
+    n: usize,
+    start: Current,
+) -> [Label; 32]
+    requires { ⌜ Placed (now order) n ⌝ }
+    ensures { λ r. ⌜ r ≡ padded (completeWalk start (labelsAt (now (order .entry)) (now (areas .entry)) (now (a .entry)) (now (b .entry)) n)) ⌝ }
 {
+    let mut out = [blank(); 32];
     let mut c = start;
     let mut i: usize = 0;
     while i < n {
-        let l = ls[i];
-        ls[i] = walk_label(c, l);
+        let l = bundle_label(order, areas, a, b, i);
+        out[i] = complete_label(c, l);
         c = next_label(c, l);
         i += 1;
     }
-    ls
-}
-
-fn fill_sides(area: bool, rest: Position, s: Sides) -> Sides
-    ensures { λ r. ⌜ r ≡ fillSides area rest s ⌝ }
-{
-    let on = s.on;
-    let left = s.left;
-    let right = s.right;
-    let o = or_else(on, rest);
-    let l = pick(area, or_else(left, rest), left);
-    let r = pick(area, or_else(right, rest), right);
-    Sides {
-        on: o,
-        left: l,
-        right: r,
-    }
-}
-
-fn fill_label(ra: Position, rb: Position, l: Label) -> Label
-    ensures { λ r. ⌜ r ≡ fillLabel ra rb l ⌝ }
-{
-    let a = l.a;
-    let b = l.b;
-    let sa = fill_sides(l.area, ra, a);
-    let sb = fill_sides(l.area, rb, b);
-    Label {
-        area: l.area,
-        a: sa,
-        b: sb,
-    }
-}
-
-fn filled(mut ls: [Label; 32], n: usize, ra: Position, rb: Position) -> [Label; 32]
-    requires { ⌜ n ≤ 32 ⌝ }
-    ensures { λ r. ⌜ r ≡ map (fillLabel ra rb) (take n ls) ++ drop n ls ⌝ }
-{
-    let mut i: usize = 0;
-    while i < n {
-        let l = ls[i];
-        ls[i] = fill_label(ra, rb, l);
-        i += 1;
-    }
-    ls
-}
-
-fn last(ls: [Label; 32], n: usize) -> Label
-    requires { ⌜ n ≤ 32 ⌝ }
-    ensures { λ r. ⌜ r ≡ lastOf (take n ls) ⌝ }
-{
-    if n == 0 {
-        return blank();
-    }
-    ls[n - 1]
+    out
 }
 
 // What a none becomes for a geometry, by the last label in order and the node's area position.
@@ -223,12 +133,20 @@ fn rest(l: Label, g: Geometry, p: Position) -> Position
     )
 }
 
-// For one geometry, some area bundle has a left and some has a right but no left.
-fn misses(f: Found) -> bool
-    ensures { λ r. ⌜ r ≡ foundMissing f ⌝ }
+// Where the walk of each geometry starts: at the left of the last area bundle that has one; where none has, at what a none
+// becomes, so that one walk completes both kinds of star.
+pub(crate) fn starts(view: View, area_a: Position, area_b: Position) -> Current
+    ensures { λ r. ⌜ r ≡ startsFrom view («area_a») («area_b») ⌝ }
 {
-    let start = f.start;
-    !is_none(start) & f.alone
+    let w = view.looked;
+    let last = view.last;
+    let fa = w.a;
+    let fb = w.b;
+    let a = fa.start;
+    let b = fb.start;
+    let sa = or_else(a, rest(last, Geometry::A, area_a));
+    let sb = or_else(b, rest(last, Geometry::B, area_b));
+    Current { a: sa, b: sb }
 }
 
 pub enum StarAnswer {
@@ -253,38 +171,26 @@ fn refused(r: Refusal) -> Labeled
     }
 }
 
-// Completes n labels that stand in order, with blanks behind them.
-fn completed(ls: [Label; 32], n: usize, area_a: Position, area_b: Position) -> Labeled
-    requires { ⌜ (n ≤ 32) × (ls ≡ padded (take n ls)) ⌝ }
-    ensures { λ r. ⌜ r ≡ completedStar (take n ls) («area_a») («area_b») ⌝ }
-{
-    let w = look(ls, n);
-    let fa = w.a;
-    let fb = w.b;
-    if misses(fa) | misses(fb) {
-        return refused(Refusal::MissingLeft);
-    }
-    let a = fa.start;
-    let b = fb.start;
-    let walk = walked(ls, n, Current { a, b });
-    let end = last(walk, n);
-    let ra = rest(end, Geometry::A, area_a);
-    let rb = rest(end, Geometry::B, area_b);
-    Labeled {
-        answer: StarAnswer::Completed,
-        labels: filled(walk, n, ra, rb),
-        count: n,
-    }
-}
-
 // The core of a star call, for ends that are checked: at most 32, and no direction 0,0.
 pub fn star_of(ends: [EdgeEnd; 32], n: usize, area_a: Position, area_b: Position) -> Labeled
     requires { ⌜ Sound ends n ⌝ }
     ensures { λ r. ⌜ r ≡ starOf (take n ends) («area_a») («area_b») ⌝ }
 {
-    let j = joined_labels(ends, n);
-    let ls = j.labels;
-    completed(ls, j.count, area_a, area_b)
+    let mut order = [0usize; 32];
+    let mut areas = [0u64; 32];
+    let mut a = [0u64; 32];
+    let mut b = [0u64; 32];
+    let count = gather(ends, n, &mut order, &mut areas, &mut a, &mut b);
+    let view = look(&order, &areas, &a, &b, count);
+    if missing(view.looked) {
+        return refused(Refusal::MissingLeft);
+    }
+    let start = starts(view, area_a, area_b);
+    Labeled {
+        answer: StarAnswer::Completed,
+        labels: complete(&order, &areas, &a, &b, count, start),
+        count,
+    }
 }
 
 // A star call: checks the ends as a record does, sorts them into bundles and completes their labels.

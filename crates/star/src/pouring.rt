@@ -1,24 +1,36 @@
 // Pouring: what a node and what the labels around it raise in the matrix. A none skips its cell.
 use crate::edge_end::EdgeEnd;
+use crate::edge_end_bundle_star::Current;
 use crate::edge_end_bundle_star::StarAnswer;
-use crate::edge_end_bundle_star::star_of;
+use crate::edge_end_bundle_star::complete_label;
+use crate::edge_end_bundle_star::next_label;
+use crate::edge_end_bundle_star::starts;
+use crate::gather::bundle_label;
+use crate::gather::gather;
+use crate::grid::cells_of;
+use crate::grid::grid_of;
+use crate::grid::pour_into;
+use crate::grid::raise;
 use crate::label::Label;
+use crate::look::look;
+use crate::look::missing;
 use crate::topology_position::Side;
 use crate::topology_position::position;
 use de9im::cells::Cells;
-use de9im::cells::to_cells;
 use de9im::coordinate_position::Position;
-use de9im::coordinate_position::row;
 use de9im::dimensions::Dimensions;
-use de9im::dimensions::number;
 use de9im::intersection_matrix::IntersectionMatrix;
 use de9im::intersection_matrix::set_at_least_if_in_both;
+use de9im::refusal::Refusal;
 ghost use mathlib.Core.Path.{_≡_};
-ghost use Prim.Native.Nat.{_≤_};
 ghost use lib.ListN.{take};
+ghost use Rattle.de9im.specs.Cells.{cellsOf, matrixOf};
 ghost use Rattle.star.specs.Calls.{pouredStar};
 ghost use Rattle.star.specs.Ends.{Sound};
-ghost use Rattle.star.specs.Pouring.{pourNode, pourSide, pourLabel, pourLabels, heldOf};
+ghost use Rattle.star.specs.Gather.{labelsAt, Placed};
+ghost use Rattle.star.specs.Grid.{pourGrid};
+ghost use Rattle.star.specs.Pouring.{pourNode, pourSide, pourLabel};
+ghost use Rattle.star.specs.Walking.{completeWalk};
 
 // A node raises (on A, on B) to 0.
 pub fn pour_node(m: IntersectionMatrix, a: Position, b: Position) -> IntersectionMatrix
@@ -27,33 +39,12 @@ pub fn pour_node(m: IntersectionMatrix, a: Position, b: Position) -> Intersectio
     set_at_least_if_in_both(m, a, b, Dimensions::ZeroDimensional)
 }
 
-// Whether raising would change nothing: a none, or a cell that is at least d.
-fn held(m: IntersectionMatrix, a: Position, b: Position, d: Dimensions) -> bool
-    ensures { λ r. ⌜ r ≡ heldOf m a b d ⌝ }
-{
-    let i = row(a);
-    let j = row(b);
-    if 3 <= i {
-        return true;
-    }
-    if 3 <= j {
-        return true;
-    }
-    number(d) <= number(m[i][j])
-}
-
-// Most raises around a node find the cell raised already: then the matrix is not written again.
 fn pour_side(m: IntersectionMatrix, l: Label, s: Side, d: Dimensions) -> IntersectionMatrix
     ensures { λ r. ⌜ r ≡ pourSide s d l m ⌝ }
 {
     let a = l.a;
     let b = l.b;
-    let pa = position(a, s);
-    let pb = position(b, s);
-    if held(m, pa, pb, d) {
-        return m;
-    }
-    set_at_least_if_in_both(m, pa, pb, d)
+    set_at_least_if_in_both(m, position(a, s), position(b, s), d)
 }
 
 // A label raises (on A, on B) to 1 and, if an area, (left A, left B) and (right A, right B) to 2.
@@ -68,20 +59,13 @@ pub fn pour_label(m: IntersectionMatrix, l: Label) -> IntersectionMatrix
     pour_side(left, l, Side::Right, Dimensions::TwoDimensional)
 }
 
-// All labels of a star, in order.
-pub fn pour_labels(m: IntersectionMatrix, labels: [Label; 32], n: usize) -> IntersectionMatrix
-    requires { ⌜ n ≤ 32 ⌝ }
-    ensures { λ r. ⌜ r ≡ pourLabels m (take n labels) ⌝ }
+// The same on nine flat numbers.
+pub fn pour_edge(cells: Cells, l: Label) -> Cells
+    ensures { λ r. ⌜ r ≡ cellsOf (pourLabel (matrixOf cells) l) ⌝ }
 {
-    let mut out = m;
-    let mut i: usize = 0;
-    while i < n {
-        let l = labels[i];
-        let next = pour_label(out, l);
-        out = next;
-        i += 1;
-    }
-    out
+    let mut g = grid_of(cells);
+    pour_into(&mut g, l);
+    cells_of(g)
 }
 
 // A node: where it lies on each geometry, and in each area, none for a geometry that is no area.
@@ -98,28 +82,57 @@ pub struct PouredStar {
     pub cells: Cells,
 }
 
-// A node and its star, for ends that are checked, poured straight into a matrix. A refusal hands the matrix back.
-pub fn pour_star(m: IntersectionMatrix, node: Node, ends: [EdgeEnd; 32], n: usize) -> PouredStar
-    requires { ⌜ Sound ends n ⌝ }
-    ensures { λ r. ⌜ r ≡ pouredStar m node (take n ends) ⌝ }
+// Completes n bundles in one walk, and pours each as soon as it is complete.
+fn pour_walk(
+    g: &mut [u8; 16],
+    order: &[usize; 32],
+    areas: &[u64; 32],
+    a: &[u64; 32],
+    b: &[u64; 32],
+    n: usize,
+    start: Current,
+)
+    requires { ⌜ Placed (now order) n ⌝ }
+    ensures { λ r. ⌜ now (g .exit) ≡ pourGrid (now (g .entry))
+        (completeWalk start (labelsAt (now (order .entry)) (now (areas .entry)) (now (a .entry)) (now (b .entry)) n)) ⌝ }
 {
+    let mut c = start;
+    let mut i: usize = 0;
+    while i < n {
+        let l = bundle_label(order, areas, a, b, i);
+        pour_into(g, complete_label(c, l));
+        c = next_label(c, l);
+        i += 1;
+    }
+}
+
+// A node and its star, for ends that are checked, poured straight into a matrix. A refusal hands the numbers back as they came.
+pub fn pour_star(cells: Cells, node: Node, ends: [EdgeEnd; 32], n: usize) -> PouredStar
+    requires { ⌜ Sound ends n ⌝ }
+    ensures { λ r. ⌜ r ≡ pouredStar cells node (take n ends) ⌝ }
+{
+    let mut order = [0usize; 32];
+    let mut areas = [0u64; 32];
+    let mut a = [0u64; 32];
+    let mut b = [0u64; 32];
+    let count = gather(ends, n, &mut order, &mut areas, &mut a, &mut b);
+    let view = look(&order, &areas, &a, &b, count);
+    if missing(view.looked) {
+        return PouredStar {
+            answer: StarAnswer::Refused(Refusal::MissingLeft),
+            cells,
+        };
+    }
     let pa = node.area_a;
     let pb = node.area_b;
-    let a = node.on_a;
-    let b = node.on_b;
-    let s = star_of(ends, n, pa, pb);
-    let answer = s.answer;
-    let labels = s.labels;
-    let count = s.count;
-    let StarAnswer::Completed = answer else {
-        return PouredStar {
-            answer,
-            cells: to_cells(m),
-        };
-    };
-    let raised = pour_labels(pour_node(m, a, b), labels, count);
+    let start = starts(view, pa, pb);
+    let on_a = node.on_a;
+    let on_b = node.on_b;
+    let mut g = grid_of(cells);
+    raise(&mut g, on_a, on_b, 1);
+    pour_walk(&mut g, &order, &areas, &a, &b, count, start);
     PouredStar {
         answer: StarAnswer::Completed,
-        cells: to_cells(raised),
+        cells: cells_of(g),
     }
 }

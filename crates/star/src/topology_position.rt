@@ -2,7 +2,8 @@
 use de9im::coordinate_position::Position;
 ghost use mathlib.Core.Bool.{cond};
 ghost use mathlib.Core.Path.{_≡_};
-ghost use Rattle.star.specs.Label.{sideOf, noSides, isNone, isPos, orElse, sidesNone};
+ghost use Prim.Native.Nat.{_≤_};
+ghost use Rattle.star.specs.Label.{codeOf, sideOf, noSides, isNone, isPos, orElse, sidesNone};
 
 pub enum Side {
     On,
@@ -46,6 +47,18 @@ pub fn is_none(p: Position) -> bool
         Position::Inside => false,
         Position::OnBoundary => false,
         Position::Outside => false,
+    }
+}
+
+// The number that stands for a position: 0 none, 1 I, 2 B, 3 E.
+pub fn code(p: Position) -> u8
+    ensures { λ r. ⌜ (r ≡ codeOf p) × (r ≤ 3) ⌝ }
+{
+    match p {
+        Position::None => 0,
+        Position::Inside => 1,
+        Position::OnBoundary => 2,
+        Position::Outside => 3,
     }
 }
 

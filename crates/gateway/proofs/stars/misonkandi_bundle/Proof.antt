@@ -1,11 +1,10 @@
 use borrow.Author.Needs.{needs}
 use native.Mathlib.Omega.{arith}
-use mathlib.Core.Path.{_≡_, refl, sym, ap, _∙_}
+use mathlib.Core.Path.{_≡_, refl, _∙_}
 use Prim.Native.Nat.{_/_, _≤_}
-use native.Mathlib.Omega.{arith}
 use lib.ListN.{length, take}
 use Rattle.plan.specs.EndBytes.{endsCall, good, bad}
-use Rattle.gateway.proofs.LawsStars.{call-few, bundled-front}
+use Rattle.gateway.proofs.LawsStars.{call-read, bundled-front}
 use Rattle.gateway.proofs.stars.misonkandi_bundle.Statement.{statement}
 use Rattle.gateway.proofs.stars.misonkandi_bundle.Tie as tie
 
@@ -16,7 +15,7 @@ returns c =
     let t = s .ends .now in
     let n = length t / 15 in
     let e : endsCall t ≡ good (take n (f .result .ends)) = f .ensures .0 ∙ simp (c .before .before .before .enum-told .given .1) in
-    let h : n ≤ length (f .result .ends) = omega (arith, call-few t (take n (f .result .ends)) e, f .ensures .1) in
+    let h : n ≤ length (f .result .ends) = omega (arith, call-read t (take n (f .result .ends)) e .0, f .ensures .1) in
     rw (e, bundled-front (f .result .ends) n h, ← c .before .before .bundle .ensures) (c .put-bundle .ensures)
 
 returns-2 : tie.Need-returns-2

@@ -1,5 +1,5 @@
 use borrow.Author.Needs.{needs}
-use mathlib.Core.Path.{_≡_, refl, sym, ap, _∙_}
+use mathlib.Core.Path.{refl}
 use Rattle.gateway.proofs.stars.put_bundle.Statement.{statement}
 use Rattle.gateway.proofs.stars.put_bundle.Tie as tie
 

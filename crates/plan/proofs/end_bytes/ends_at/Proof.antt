@@ -1,10 +1,10 @@
 use borrow.Author.Needs.{needs}
 use native.Mathlib.Omega.{arith}
 use Prim.Native.Nat.{_≤_, _-_, _+_, _*_}
-use mathlib.Core.Path.{_≡_, _∙_, sym}
-use native.Mathlib.Omega.{arith}
+use mathlib.Core.Path.{_≡_, _∙_}
 use lib.ListN.{length, take, length-set}
 use Rattle.plan.specs.EndBytes.{readEnds}
+use Rattle.plan.proofs.LawsReading.{end-reading}
 use Rattle.plan.proofs.LawsEnds.{before, start, one-read, one-bad, all-read}
 use Rattle.plan.proofs.end_bytes.ends_at.Statement.{statement}
 use Rattle.plan.proofs.end_bytes.ends_at.Tie as tie
@@ -30,7 +30,7 @@ returns c =
     let l = c .before .before .before .before .before .loop in
     let b = c .before .before .before .before .before .before .before .before in (
       l .inv .3 ∙ one-bad (b .args .s .now) (l .ends) (l .p) (b .args .n) (l .i) _ (omega arith)
-          (sym (c .before .before .before .end-at .ensures) ∙ c .before .r .given .1),
+          (end-reading (b .args .s .now) (l .p) ∙ simp (← c .before .before .before .end-fault .ensures, c .before .r .given .1)),
       l .inv .2,
     )
 
@@ -43,7 +43,11 @@ loop-again c =
       simp length-set (l .inv .2),
       l .inv .3 ∙
           one-read (b .args .s .now) (l .ends) (l .p) (b .args .n) (l .i) _ (omega arith) (omega arith)
-          (sym (c .before .before .before .end-at .ensures) ∙ c .before .e .given .1),
+          (end-reading (b .args .s .now) (l .p) ∙ simp (
+            ← c .before .before .before .end-fault .ensures,
+            c .before .enum-told .given .1,
+            c .end-read .ensures,
+          )),
     )
 
 returns-2 : tie.Need-returns-2 Inv-loop μ-loop
@@ -62,6 +66,7 @@ ends-at-spec =
     loop-holds
     (λ c κs. search needs)
     (λ c. search needs)
+    (λ c κs. search needs)
     (λ c. search needs)
     (λ c. search needs)
     (λ c. search needs)

@@ -3,12 +3,7 @@ use Rattle.plan.proofs.record.edge_with.Statement.{statement}
 use Rattle.plan.proofs.record.edge_with.Tie as tie
 
 returns : tie.Need-returns
-returns c = simp (
-  c .accepted .ensures,
-  c .before .pour-label .ensures,
-  c .before .before .from-cells .ensures,
-  c .before .before .before .before .l .given .1,
-)
+returns c = simp (c .pour-edge .ensures, c .before .before .l .given .1)
 
 returns-2 : tie.Need-returns-2
 returns-2 c = simp (c .refused .ensures, c .before .before .l2 .given .1)
@@ -18,8 +13,6 @@ edge-with-spec =
     tie.close
     (tie.spec
     (λ c. search needs)
-    (λ c κs. search needs)
-    (λ c κs. search needs)
     (λ c κs. search needs)
     (λ c. search needs)
     (λ c κs. search needs)

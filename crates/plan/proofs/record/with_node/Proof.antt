@@ -15,7 +15,7 @@ poured-requires : tie.Need-poured-requires
 poured-requires c κs =
     let f = c .before .before .before .ends-at in
     let s = c .before .before .before .before .before .before .before .before .args in
-    read-sound (s .n) (s .s .now) 9 (f .result .ends) (omega arith) (f .ensures .1) (f .ensures .0 ∙ simp (c .enum-told2 .given .1))
+    read-sound (s .n) (s .s .now) 9 (f .result .ends) (omega arith) (f .ensures .0 ∙ simp (c .enum-told2 .given .1)) (f .ensures .1)
 
 returns-2 : tie.Need-returns-2
 returns-2 c =

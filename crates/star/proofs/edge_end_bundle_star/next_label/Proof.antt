@@ -1,11 +1,11 @@
 use borrow.Author.Needs.{needs}
-use Rattle.star.specs.Walking.{nextLabel}
+use Rattle.star.specs.Walking.{completeCurrent}
 use Rattle.star.proofs.edge_end_bundle_star.next_label.Statement.{statement}
 use Rattle.star.proofs.edge_end_bundle_star.next_label.Tie as tie
 
 returns : tie.Need-returns
-unfolding nextLabel
-returns c = simp (c .walk-next2 .ensures, c .before .walk-next .ensures)
+unfolding completeCurrent
+returns c = simp (c .next-current2 .ensures, c .before .next-current .ensures)
 
 pub next-label-spec : {M : Type 1} → statement M
 next-label-spec =

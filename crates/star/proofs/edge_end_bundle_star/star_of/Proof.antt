@@ -1,21 +1,57 @@
 use borrow.Author.Needs.{needs}
-use mathlib.Core.Path.{_≡_, refl, _∙_}
-use Rattle.star.proofs.LawsStar.{joined-front, joined-pad}
+use native.Mathlib.Omega.{arith}
+use Prim.Native.Nat.{_<_}
+use mathlib.Core.Path.{_≡_, refl, sym, ap, _∙_}
+use mathlib.Core.Bool.{true, false}
+use lib.ListN.{length, take, length-take}
+use Rattle.star.specs.Calls.{completedStar}
+use Rattle.star.specs.Completing.{missingLeft}
+use Rattle.star.specs.Star.{joinedOf}
+use Rattle.star.specs.Walking.{viewOf}
+use Rattle.star.proofs.LawsComplete.{completed-walk}
+use Rattle.star.proofs.LawsFew.{completed-length}
+use Rattle.star.proofs.LawsGather.{gathered-labels, gathered-count}
+use Rattle.star.proofs.LawsStar.{view-missing}
 use Rattle.star.proofs.edge_end_bundle_star.star_of.Statement.{statement}
 use Rattle.star.proofs.edge_end_bundle_star.star_of.Tie as tie
 
-completed-requires : tie.Need-completed-requires
-completed-requires c κs =
-    let j = c .before .joined-labels .ensures in
-    (j .few, joined-pad _ _ _ j)
-
 returns : tie.Need-returns
-returns c = c .completed .ensures ∙ rw (joined-front _ _ _ (c .before .before .joined-labels .ensures)) refl
+unfolding completedStar
+returns c =
+    let g = c .before .before .before .before .before .before .before .before in
+    let s = g .before .before .before .before .before in
+    let v = c .before .before .before .look in
+    let es = take (s .args .n) (s .args .ends) in
+    let small : length es < 1024 = omega (arith, s .pre .few, length-take (s .args .n) (s .args .ends)) in
+    let labels = gathered-labels es small (g .gather .result) _ _ _ _ (g .gather .ensures) in
+    let e : v .result ≡ viewOf (joinedOf es) = v .ensures ∙ ap viewOf labels in
+    let m : missingLeft (joinedOf es) ≡ true = sym (view-missing (joinedOf es) (v .result) e) ∙ sym (c .before .before .missing .ensures) ∙ c .before .if1 .taken in
+    c .refused .ensures ∙ rw m refl
+
+returns-2 : tie.Need-returns-2
+unfolding completedStar
+returns-2 c =
+    let g = c .before .before .before .before .before .before .before .before .before .before .before .before .before in
+    let s = g .before .before .before .before .before in
+    let v = c .before .before .before .before .before .before .before .before .look in
+    let es = take (s .args .n) (s .args .ends) in
+    let small : length es < 1024 = omega (arith, s .pre .few, length-take (s .args .n) (s .args .ends)) in
+    let labels = gathered-labels es small (g .gather .result) _ _ _ _ (g .gather .ensures) in
+    let count = gathered-count es small (g .gather .result) _ _ _ _ (g .gather .ensures) in
+    let e : v .result ≡ viewOf (joinedOf es) = v .ensures ∙ ap viewOf labels in
+    let m : missingLeft (joinedOf es) ≡ false = sym (view-missing (joinedOf es) (v .result) e) ∙ sym (c .before .before .before .before .before .before .before .missing .ensures) ∙ c .before .before .before .before .before .before .if1 .left in
+    let done = completed-walk (s .args .area-a) (s .args .area-b) (joinedOf es) m in
+    rw (m, c .complete .ensures, labels, c .before .before .before .before .before .starts .ensures, e, ← done, completed-length (s .args .area-a) (s .args .area-b) (joinedOf es), count) refl
 
 pub star-of-spec : {M : Type 1} → statement M
 star-of-spec =
     tie.close
     (tie.spec
     (λ c κs. search needs)
-    completed-requires
-    returns)
+    (λ c κs. search needs)
+    (λ c κs. search needs)
+    (λ c κs. search needs)
+    returns
+    (λ c κs. search needs)
+    (λ c κs. search needs)
+    returns-2)

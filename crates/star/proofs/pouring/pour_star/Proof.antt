@@ -1,65 +1,59 @@
 use borrow.Author.Needs.{needs}
 use native.Mathlib.Omega.{arith}
+use Prim.Native.Nat.{_<_}
 use mathlib.Core.Path.{_≡_, refl, sym, ap, _∙_}
-use lib.ListN.{length, take}
-use lib.Seq.{length-take-le}
-use Rattle.star.specs.declared.«edge_end_bundle_star».StarAnswer.the-variants.{Completed, Refused}
-use Rattle.star.specs.Calls.{starOf, pouredStar}
-use Rattle.star.proofs.LawsFew.{star-count, star-labels}
+use mathlib.Core.Bool.{true, false}
+use lib.ListN.{length, take, length-take}
+use Rattle.star.specs.Calls.{completedStar, pouredStar}
+use Rattle.star.specs.Completing.{missingLeft, completedOf}
+use Rattle.star.specs.Star.{joinedOf}
+use Rattle.star.specs.Walking.{viewOf}
+use Rattle.star.proofs.LawsComplete.{completed-walk}
+use Rattle.star.proofs.LawsGather.{gathered-labels}
+use Rattle.star.proofs.LawsGrid.{grid-star}
+use Rattle.star.proofs.LawsStar.{view-missing}
 use Rattle.star.proofs.pouring.pour_star.Statement.{statement}
 use Rattle.star.proofs.pouring.pour_star.Tie as tie
 
 returns : tie.Need-returns
-unfolding pouredStar
+unfolding pouredStar completedStar
 returns c =
-    let b = c .before .before .before .before in
-    let s = b .before .args in
-    let g = c .before .enum-told2 .given in
-    let e : starOf (take (s .n) (s .ends)) (s .node .«area_a») (s .node .«area_b») .answer ≡ Refused (g .0 .0) = sym
-    (ap (λ x. x .answer) (b .star-of .ensures)) ∙ g .1 in
-    rw (c .to-cells .ensures, g .1, e) refl
-
-pour-labels-requires : tie.Need-pour-labels-requires
-pour-labels-requires c κs =
-    let b = c .before .before .before .before in
-    let s = b .before .args in
-    let es = take (s .n) (s .ends) in
-    let pa = s .node .«area_a» in
-    let pb = s .node .«area_b» in
-    let len : length (s .ends) ≡ 32 = search needs in
-    let few = b .before .pre .few in
-    let e : starOf es pa pb .answer ≡ Completed = sym (ap (λ x. x .answer) (b .star-of .ensures)) ∙ c .before .enum-told .given .1 in
-    rw (b .star-of .ensures) (omega (arith, few, star-count es pa pb e, length-take-le (s .n) (s .ends) (omega (arith, few, len))))
+    let g = c .before .before .before .before .before .before .before in
+    let s = g .before .before .before .before .before in
+    let v = c .before .before .look in
+    let es = take (s .args .n) (s .args .ends) in
+    let small : length es < 1024 = omega (arith, s .pre .few, length-take (s .args .n) (s .args .ends)) in
+    let labels = gathered-labels es small (g .gather .result) _ _ _ _ (g .gather .ensures) in
+    let e : v .result ≡ viewOf (joinedOf es) = v .ensures ∙ ap viewOf labels in
+    let m : missingLeft (joinedOf es) ≡ true = sym (view-missing (joinedOf es) (v .result) e) ∙ sym (c .before .missing .ensures) ∙ c .if1 .taken in
+    rw m refl
 
 returns-2 : tie.Need-returns-2
-unfolding pouredStar
+unfolding pouredStar completedStar
 returns-2 c =
-    let b = c .before .before .before .before .before .before in
-    let s = b .before .args in
-    let es = take (s .n) (s .ends) in
-    let pa = s .node .«area_a» in
-    let pb = s .node .«area_b» in
-    let e : starOf es pa pb .answer ≡ Completed = sym (ap (λ x. x .answer)
-    (b .star-of .ensures)) ∙ c .before .before .before .enum-told .given .1 in
-    rw (
-      e,
-      c .to-cells2 .ensures,
-      c .before .pour-labels .ensures,
-      c .before .before .pour-node .ensures,
-      b .star-of .ensures,
-      star-labels es pa pb e,
-    ) refl
+    let g = c .before .before .before .before .before .before .before .before .before .before .before .before .before .before .before .before .before .before in
+    let s = g .before .before .before .before .before in
+    let k = c .before .before .before .before .before .before .before .before .before .before in
+    let v = k .before .before .before .look in
+    let es = take (s .args .n) (s .args .ends) in
+    let small : length es < 1024 = omega (arith, s .pre .few, length-take (s .args .n) (s .args .ends)) in
+    let labels = gathered-labels es small (g .gather .result) _ _ _ _ (g .gather .ensures) in
+    let e : v .result ≡ viewOf (joinedOf es) = v .ensures ∙ ap viewOf labels in
+    let m : missingLeft (joinedOf es) ≡ false = sym (view-missing (joinedOf es) (v .result) e) ∙ sym (k .before .before .missing .ensures) ∙ k .before .if1 .left in
+    let n = s .args .node in
+    rw (m, c .cells-of .ensures, c .before .pour-walk .ensures, labels, k .starts .ensures, e, ← completed-walk (n .«area_a») (n .«area_b») (joinedOf es) m, c .before .before .before .before .before .before .before .raise .ensures, c .before .before .before .before .before .before .before .before .before .grid-of .ensures, grid-star (s .args .cells) (n .«on_a») (n .«on_b») (completedOf (n .«area_a») (n .«area_b») (joinedOf es))) refl
 
 pub pour-star-spec : {M : Type 1} → statement M
 pour-star-spec =
     tie.close
     (tie.spec
     (λ c κs. search needs)
-    (λ c. search needs)
-    (λ c. search needs)
+    (λ c κs. search needs)
     (λ c κs. search needs)
     returns
     (λ c κs. search needs)
-    pour-labels-requires
+    (λ c κs. search needs)
+    (λ c κs. search needs)
+    (λ c κs. search needs)
     (λ c κs. search needs)
     returns-2)

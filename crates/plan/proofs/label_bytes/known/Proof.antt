@@ -1,0 +1,17 @@
+use borrow.Author.Needs.{needs}
+use native.Mathlib.Omega.{arith}
+use Rattle.plan.proofs.LawsReading.{above-two}
+use Rattle.plan.proofs.label_bytes.known.Statement.{statement}
+use Rattle.plan.proofs.label_bytes.known.Tie as tie
+
+returns-4 : tie.Need-returns-4
+returns-4 c = above-two (c .before .args .b) (omega arith)
+
+pub known-spec : {M : Type 1} → statement M
+known-spec =
+    tie.close
+    (tie.spec
+    (λ c. search needs)
+    (λ c. search needs)
+    (λ c. search needs)
+    returns-4)

@@ -1,0 +1,65 @@
+-- The plain arguments of the operations: a change of a cell, a label, nine numbers. They own nothing. Assumes nothing.
+use Prim.Native.Nat.{ℕ}
+use mathlib.Core.List.{List, map}
+use mir.Syntax.{w8, tyArray, tyInt}
+use mir.Val.{vint}
+use denote.Plain.{uint-vals, uint-tells, uint-makes, uint-lawful}
+use denote.Array.{Array, arrayVal, array-tells, array-lawful, array-makes}
+use denote.Builtin.{u8}
+use denote.Struct.Declared.{Declared, fields, row, shape}
+use denote.Struct.Struct.{Plains, layout}
+use denote.Struct.Laws as LL
+use Rattle.star.proofs.label.Label as L
+use Rattle.star.proofs.label.Label.Laws as L′
+use Rattle.running.proofs.by_value.Change as C
+use Rattle.running.proofs.by_value.Change.Laws as C′
+use Rattle.running.proofs.WalkChange.{Plain, Laws}
+
+-- a declared struct
+abbrev pub structOf : Declared → Plain
+structOf X = record {
+  D = X .D;
+  layout = layout (shape X);
+  written = row X .written;
+  reaches = row X .reaches;
+  own = row X .own;
+  coded = row X .coded;
+}
+
+abbrev pub structLaws : (X : Declared) → LL.Laws X → Plains (fields X) → Laws (structOf X)
+structLaws X LX PX = record {
+  val = LL.val X LX;
+  tells = LL.tells X LX;
+  makes = λ M 𝓤 H A W. LL.makes X PX 𝓤 H A;
+  lawful = λ M 𝓤 H A W. record { typed = LL.lawful X LX 𝓤 H A W .typed };
+}
+
+abbrev pub change : Plain
+change = structOf C.the-type
+
+abbrev pub changeLaws : Laws change
+changeLaws = structLaws C.the-type C′.the-laws C′.the-plain
+
+abbrev pub label : Plain
+label = structOf L.the-type
+
+abbrev pub labelLaws : Laws label
+labelLaws = structLaws L.the-type L′.the-laws L′.the-plain
+
+abbrev pub cells : Plain
+cells = record {
+  D = List ℕ;
+  layout = tyArray (tyInt w8) 9;
+  written = Array u8 9 .written;
+  reaches = Array u8 9 .reaches;
+  own = Array u8 9 .own;
+  coded = Array u8 9 .coded;
+}
+
+abbrev pub cellsLaws : Laws cells
+cellsLaws = record {
+  val = λ ns. arrayVal (map (λ n. vint w8 n) ns);
+  tells = array-tells u8 (uint-vals w8) (uint-tells w8) 9;
+  makes = λ M 𝓤 H A W. array-makes 𝓤 H A W u8 (uint-makes 𝓤 H A W w8) 9;
+  lawful = λ M 𝓤 H A W. record { typed = array-lawful 𝓤 H A W u8 (uint-lawful 𝓤 H A W w8) 9 .typed };
+}

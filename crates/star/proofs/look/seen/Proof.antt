@@ -1,0 +1,21 @@
+use borrow.Author.Needs.{needs}
+use Rattle.star.proofs.look.seen.Statement.{statement}
+use Rattle.star.proofs.look.seen.Tie as tie
+
+returns : tie.Need-returns
+returns c = simp (
+  c .before .is-none2 .ensures,
+  c .before .before .is-none .ensures,
+  c .before .before .before .or-else .ensures,
+  c .before .before .before .before .pick .ensures,
+)
+
+pub seen-spec : {M : Type 1} → statement M
+seen-spec =
+    tie.close
+    (tie.spec
+    (λ c κs. search needs)
+    (λ c κs. search needs)
+    (λ c κs. search needs)
+    (λ c κs. search needs)
+    returns)

@@ -1,0 +1,83 @@
+-- A matrix has one verdict, so each is given exactly when demand 3 says; and a verdict for good stays. Assumes nothing.
+use Prim.Native.Nat.{ℕ, suc, _<_}
+use mathlib.Core.Path.{_≡_, refl, ap, subst}
+use mathlib.Core.Bool.{Bool, true, false}
+use mathlib.Core.List.{List, [], _∷_}
+use native.Mathlib.Omega.{arith}
+use lib.ListN.{length, getD}
+use Rattle.plan.specs.Run.{Accepts, none, then}
+use Rattle.de9im.specs.declared.refusal.Refusal.{Refusal}
+use Rattle.de9im.specs.declared.refusal.Spot.the-variants.{At}
+use Rattle.de9im.specs.Patterns.{WhollyGood}
+use Rattle.de9im.specs.Text.{firstBad}
+use Rattle.verdict.specs.declared.Verdict.{Verdict}
+use Rattle.verdict.specs.declared.Verdict.the-variants.{YesForGood, NoForGood, Open}
+use Rattle.verdict.specs.declared.pattern.Judged.{Judged}
+use Rattle.verdict.specs.declared.pattern.Judged.the-variants.{Is, Refused}
+use Rattle.verdict.specs.Judges.{goodLetter, Refuses, not-nine, bad-byte, Judges}
+use Rattle.verdict.specs.Means.{isBytes, Always, Sometimes, Means, matchOf}
+use Rattle.verdict.proofs.LawsBool.{not-both}
+
+module _ (answer : List ℕ → Bool) (ns : List ℕ) where
+  -- what every run ends in, none can end otherwise in
+  yes-never : {A : Type 0} → Always answer true ns → Sometimes answer false ns → A
+  yes-never f s = not-both (f (s .records) (s .after) (s .bytes) (s .accepted)) (s .says)
+
+  no-never : {A : Type 0} → Always answer false ns → Sometimes answer true ns → A
+  no-never f s = not-both (s .says) (f (s .records) (s .after) (s .bytes) (s .accepted))
+
+  pub one-verdict : (v w : Verdict) → Means v answer ns → Means w answer ns → v ≡ w
+  one-verdict YesForGood YesForGood f g = refl
+  one-verdict YesForGood NoForGood f g = not-both (f [] ns refl none) (g [] ns refl none)
+  one-verdict YesForGood Open f g = yes-never f (g .ends-no)
+  one-verdict NoForGood YesForGood f g = not-both (g [] ns refl none) (f [] ns refl none)
+  one-verdict NoForGood NoForGood f g = refl
+  one-verdict NoForGood Open f g = no-never f (g .ends-yes)
+  one-verdict Open YesForGood f g = yes-never g (f .ends-no)
+  one-verdict Open NoForGood f g = no-never g (f .ends-yes)
+  one-verdict Open Open f g = refl
+
+  -- given exactly when
+  pub exactly-when : (v w : Verdict) → Means v answer ns → (v ≡ w → Means w answer ns) × (Means w answer ns → v ≡ w)
+  exactly-when v w f = (λ e. subst (λ (x : Verdict). Means x answer ns) e f, one-verdict v w f)
+
+-- what every run ends in, every run after one more record ends in
+pub always-stays : (answer : List ℕ → Bool) (y : Bool) (ns s ms : List ℕ) → isBytes s ≡ true → Accepts ns s ms → Always answer y ns
+    → Always answer y ms
+always-stays answer y ns s ms h a f rs os b r = f (s ∷ rs) os (simp h b) (then a r)
+
+-- so a verdict for good stays after any accepted record
+pub stays : (answer : List ℕ → Bool) (v w : Verdict) (ns s ms : List ℕ) → (v ≡ Open → ⊥) → isBytes s ≡ true → Accepts ns s ms
+    → Means v answer ns → Means w answer ms → w ≡ v
+stays answer YesForGood w ns s ms h b a f g = one-verdict answer ms w YesForGood g (always-stays answer true ns s ms b a f)
+stays answer NoForGood w ns s ms h b a f g = one-verdict answer ms w NoForGood g (always-stays answer false ns s ms b a f)
+stays answer Open w ns s ms h b a f g = absurd (h refl)
+
+-- of a pattern too
+pub judged-stays : (p : List ℕ) (v w : Verdict) (ns s ms : List ℕ) → (v ≡ Open → ⊥) → isBytes s ≡ true → Accepts ns s ms
+    → Judges (Is v) p ns → Judges (Is w) p ms → w ≡ v
+judged-stays p v w ns s ms h b a f g = stays (matchOf p) v w ns s ms h b a (f .means) (g .means)
+
+-- a pattern has one answer: one refusal, or one verdict
+one-refusal : {p : List ℕ} {r q : Refusal} → Refuses p r → Refuses p q → r ≡ q
+one-refusal (not-nine h) (not-nine k) = refl
+one-refusal (not-nine h) (bad-byte k e) = absurd (h k)
+one-refusal (bad-byte h e) (not-nine k) = absurd (k h)
+one-refusal (bad-byte h e) (bad-byte k f) = cc
+
+good-none : (good : ℕ → Bool) (i k : ℕ) (bs : List ℕ) → ((j : ℕ) → j < length bs → good (getD bs j 0) ≡ true) → firstBad good i bs ≡ At k
+    → ⊥
+unfolding firstBad
+good-none good i k [] g e = let z : _≡_ {A = ℕ} 0 1 = cc in omega arith
+good-none good i k (b ∷ bs) g e =
+    good-none good (suc i) k bs (λ j h. g (suc j) (omega arith)) (rw (g 0 (omega arith)) at e)
+
+not-refused : {A : Type 0} {p : List ℕ} {r : Refusal} → WhollyGood p → Refuses p r → A
+not-refused g (not-nine h) = absurd (h (g .nine))
+not-refused {p = p} g (bad-byte {k = k} h e) = absurd (good-none goodLetter 0 k p (λ j l. g .letters j (omega arith)) e)
+
+pub one-judged : (p ns : List ℕ) (r q : Judged) → Judges r p ns → Judges q p ns → r ≡ q
+one-judged p ns (Is v) (Is w) f g = ap Is (one-verdict (matchOf p) ns v w (f .means) (g .means))
+one-judged p ns (Is v) (Refused q) f g = not-refused (f .good) g
+one-judged p ns (Refused r) (Is w) f g = not-refused (g .good) f
+one-judged p ns (Refused r) (Refused q) f g = ap Refused (one-refusal f g)

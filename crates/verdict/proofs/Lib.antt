@@ -1,0 +1,12 @@
+-- Facts about the definitions of specs/, each stated once.
+pub mod LawsBool
+pub mod LawsRaise
+pub mod LawsReach
+pub mod LawsVerdict
+pub mod LawsCrossing
+pub mod LawsPredicate
+pub mod LawsLetter
+pub mod LawsPattern
+pub mod LawsLoop
+pub mod LawsNine
+pub mod Examples

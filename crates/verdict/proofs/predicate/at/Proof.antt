@@ -1,0 +1,66 @@
+use borrow.Author.Needs.{needs}
+use Rattle.verdict.proofs.predicate.at.Statement.{statement}
+use Rattle.verdict.proofs.predicate.at.Tie as tie
+
+pub at-spec : {M : Type 1} → statement M
+at-spec =
+    tie.close
+    (tie.spec
+    (λ c. search needs)
+    (λ c κs. search needs)
+    (λ c κs. search needs)
+    (λ c. search needs)
+    (λ c κs. search needs)
+    (λ c κs. search needs)
+    (λ c. search needs)
+    (λ c κs. search needs)
+    (λ c κs. search needs)
+    (λ c. search needs)
+    (λ c κs. search needs)
+    (λ c κs. search needs)
+    (λ c. search needs)
+    (λ c κs. search needs)
+    (λ c κs. search needs)
+    (λ c κs. search needs)
+    (λ c. search needs)
+    (λ c κs. search needs)
+    (λ c κs. search needs)
+    (λ c. search needs)
+    (λ c κs. search needs)
+    (λ c κs. search needs)
+    (λ c. search needs)
+    (λ c κs. search needs)
+    (λ c κs. search needs)
+    (λ c κs. search needs)
+    (λ c. search needs)
+    (λ c. search needs)
+    (λ c. search needs)
+    (λ c κs. search needs)
+    (λ c κs. search needs)
+    (λ c. search needs)
+    (λ c κs. search needs)
+    (λ c κs. search needs)
+    (λ c. search needs)
+    (λ c κs. search needs)
+    (λ c κs. search needs)
+    (λ c. simp (c .pick .ensures, c .before .is-disjoint .ensures, c .before .before .enum-told .given .1))
+    (λ c. simp (c .pick2 .ensures, c .before .is-disjoint2 .ensures, c .before .before .enum-told2 .given .1))
+    (λ c. simp (c .pick3 .ensures, c .before .is-inner .ensures, c .before .before .enum-told3 .given .1))
+    (λ c. simp (c .pick4 .ensures, c .before .is-outer .ensures, c .before .before .enum-told4 .given .1))
+    (λ c. simp (
+      c .pick5 .ensures,
+      c .before .is-outer2 .ensures,
+      c .before .before .is-inner2 .ensures,
+      c .before .before .before .enum-told5 .given .1,
+    ))
+    (λ c. simp (c .pick6 .ensures, c .before .is-inner3 .ensures, c .before .before .enum-told6 .given .1))
+    (λ c. simp (c .pick7 .ensures, c .before .is-outer3 .ensures, c .before .before .enum-told7 .given .1))
+    (λ c. simp (
+      c .pick8 .ensures,
+      c .before .is-outer4 .ensures,
+      c .before .before .is-clear .ensures,
+      c .before .before .before .enum-told8 .given .1,
+    ))
+    (λ c. simp (c .pick9 .ensures, c .before .is-f .ensures, c .before .before .before .enum-told9 .given .1))
+    (λ c. simp (c .pick10 .ensures, c .before .are-areas .ensures, c .before .before .enum-told10 .given .1))
+    (λ c. simp (c .pick11 .ensures, c .before .overlap-stays .ensures, c .before .before .enum-told11 .given .1)))

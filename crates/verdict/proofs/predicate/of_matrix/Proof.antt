@@ -1,0 +1,11 @@
+use borrow.Author.Needs.{needs}
+use Rattle.verdict.proofs.LawsPredicate.{matrix-sound}
+use Rattle.verdict.proofs.predicate.of_matrix.Statement.{statement}
+use Rattle.verdict.proofs.predicate.of_matrix.Tie as tie
+
+pub of-matrix-spec : {M : Type 1} → statement M
+of-matrix-spec =
+    tie.close
+    (tie.spec
+    (λ c κs. search needs)
+    (λ c. rw (c .at .ensures) (matrix-sound (c .before .args .p) (c .before .args .m))))

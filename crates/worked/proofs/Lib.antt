@@ -1,0 +1,2 @@
+-- That document 01's worked examples hold.
+pub mod AllHold

@@ -1,0 +1,132 @@
+-- Document 01, "Examples to prove": P1 to P14; and "At the edges: 32 ends pass, 33 are 5; a node without ends passes; offset 0 in 12 bytes
+-- passes, offset 1 is 12."
+use Prim.Native.Nat.{ℕ, zero, suc}
+use mathlib.Core.Bool.{true, false}
+use mathlib.Core.List.{List, [], _∷_, _++_}
+use lib.IntN.{pos}
+use lib.Ieee.{ofInt, binary64}
+use Rattle.de9im.specs.declared.«coordinate_position».Position.{Position}
+use Rattle.de9im.specs.declared.«coordinate_position».Position.the-variants.{None, Inside, OnBoundary}
+use Rattle.de9im.specs.declared.patterns.Matched.the-variants.{No, Refused}
+use Rattle.de9im.specs.declared.predicates.Predicate.the-variants.{EqualTopo, Crosses, Overlaps}
+use Rattle.de9im.specs.declared.refusal.Refusal.the-variants.{BadByte, Ends, NoRoom}
+use Rattle.de9im.specs.Bytes.{bytes}
+use Rattle.star.specs.declared.label.Label.{Label}
+use Rattle.star.specs.declared.«topology_position».Sides.{Sides}
+use Rattle.star.specs.declared.«edge_end».EdgeEnd.{EdgeEnd}
+use Rattle.place.specs.declared.places.Corner.{Corner}
+use Rattle.place.specs.declared.places.Place.{Place}
+use Rattle.place.specs.declared.places.Place.the-variants.{Box}
+use Rattle.verdict.specs.declared.Verdict.the-variants.{Open, NoForGood}
+use Rattle.verdict.specs.declared.pattern.Judged.the-variants as J
+use Rattle.worked.specs.Example.{
+  Example,
+  record-gives,
+  record-refused,
+  predicate-says,
+  pattern-says,
+  verdict-says,
+  places-give,
+  bundle-gives,
+  report-gives,
+  report-refused,
+}
+
+-- bytes of a record. 2 and -2 as four bytes, signed
+abbrev pub two : List ℕ
+two = 0 ∷ 0 ∷ 0 ∷ 2 ∷ []
+
+abbrev pub minusTwo : List ℕ
+minusTwo = 255 ∷ 255 ∷ 255 ∷ 254 ∷ []
+
+abbrev pub nought : List ℕ
+nought = 0 ∷ 0 ∷ 0 ∷ 0 ∷ []
+
+-- what one geometry says: nothing; on B, left I, right E; on B, left E, right I
+abbrev pub nothing : List ℕ
+nothing = 0 ∷ 0 ∷ 0 ∷ []
+
+abbrev pub forth : List ℕ
+forth = 2 ∷ 1 ∷ 3 ∷ []
+
+abbrev pub back : List ℕ
+back = 2 ∷ 3 ∷ 1 ∷ []
+
+-- an end with an area label
+abbrev pub end : List ℕ → List ℕ → List ℕ → List ℕ → List ℕ
+end dx dy a b = dx ++ dy ++ (1 ∷ []) ++ a ++ b
+
+-- P1: a node, B for both, area positions B, ends E, N, W, S: 67 bytes follow the length
+abbrev pub p1 : List ℕ
+p1 =
+    (0 ∷ 67 ∷ 1 ∷ 1 ∷ 2 ∷ 2 ∷ 2 ∷ 2 ∷ 4 ∷ []) ++
+    end two nought nothing forth ++
+    end nought two forth nothing ++
+    end minusTwo nought nothing back ++
+    end nought minusTwo back nothing
+
+-- (x,x)-(y,y)
+abbrev pub corner : ℕ → Corner
+corner x = record { x = ofInt binary64 (pos x); y = ofInt binary64 (pos x) }
+
+abbrev pub square : ℕ → ℕ → Place
+square x y = Box (record { min = corner x; max = corner y })
+
+-- of a line, on for both geometries
+abbrev pub line : Position → Label
+line on = record { area = false; a = record { on = on; left = None; right = None }; b = record { on = on; left = None; right = None } }
+
+abbrev pub boundaryEnd : EdgeEnd
+boundaryEnd = record { dir = record { dx = pos 1; dy = pos 0 }; label = line OnBoundary }
+
+-- in document 01's order; P8 and P14 have two halves
+abbrev pub p1-to-p14 : List Example
+p1-to-p14 =
+    -- P1
+    record-gives "FFFFFFFF2" p1 69 "212101212" ∷
+    -- P2
+    predicate-says Overlaps "212101212" true ∷
+    -- P3
+    predicate-says EqualTopo "FFFFFFFF2" true ∷
+    -- P4
+    predicate-says EqualTopo "FFFFFFFFF" false ∷
+    -- P5
+    pattern-says "T*X******" "FFFFFFFF2" No ∷
+    -- P6
+    pattern-says "T*X******" "212101212" (Refused (BadByte 2)) ∷
+    -- P7
+    verdict-says "T*X******" "FFFFFFFF2" (J.Refused (BadByte 2)) ∷
+    -- P8
+    verdict-says "FF*FF****" "FFFFFFFF2" (J.Is Open) ∷
+    verdict-says "FF*FF****" "0FFFFFFF2" (J.Is NoForGood) ∷
+    -- P9
+    predicate-says Crosses "0F1FF0102" true ∷
+    -- P10
+    places-give (square 0 4) (square 2 6) "212101212" ∷
+    -- P11
+    places-give (square 0 4) (square 0 4) "2FFF1FFF2" ∷
+    -- P12
+    places-give (square 0 2) (square 2 4) "FF2F01212" ∷
+    -- P13
+    places-give (square 0 6) (square 2 4) "212FF1FF2" ∷
+    -- P14
+    bundle-gives (boundaryEnd ∷ boundaryEnd ∷ []) (line Inside) ∷
+    bundle-gives (boundaryEnd ∷ boundaryEnd ∷ boundaryEnd ∷ []) (line OnBoundary) ∷ []
+
+-- n ends of a line, on B for both, all in one direction
+abbrev pub many : ℕ → List ℕ
+many zero = []
+many (suc n) = two ++ nought ++ (0 ∷ []) ++ (2 ∷ 0 ∷ 0 ∷ []) ++ (2 ∷ 0 ∷ 0 ∷ []) ++ many n
+
+-- twelve bytes of a buffer
+abbrev pub twelve : List ℕ
+twelve = 7 ∷ 7 ∷ 7 ∷ 7 ∷ 7 ∷ 7 ∷ 7 ∷ 7 ∷ 7 ∷ 7 ∷ 7 ∷ 7 ∷ []
+
+-- 487 and 502 bytes follow the length: 7 + 15 * 32 and 7 + 15 * 33
+abbrev pub edges : List Example
+edges =
+    record-gives "FFFFFFFF2" ((1 ∷ 231 ∷ 1 ∷ 1 ∷ 2 ∷ 2 ∷ 0 ∷ 0 ∷ 32 ∷ []) ++ many 32) 489 "1FFF0FFF2" ∷
+    record-refused "FFFFFFFF2" ((1 ∷ 246 ∷ 1 ∷ 1 ∷ 2 ∷ 2 ∷ 0 ∷ 0 ∷ 33 ∷ []) ++ many 33) Ends ∷
+    record-gives "FFFFFFFF2" (0 ∷ 7 ∷ 1 ∷ 1 ∷ 1 ∷ 1 ∷ 0 ∷ 0 ∷ 0 ∷ []) 9 "0FFFFFFF2" ∷
+    report-gives "212101212" twelve 0 12 (0 ∷ 10 ∷ 1 ∷ bytes "212101212") ∷
+    report-refused "212101212" twelve 1 NoRoom ∷ []
