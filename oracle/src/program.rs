@@ -177,7 +177,12 @@ impl Run {
 
     fn quiet_run(&mut self, count: usize) -> Vec<u8> {
         let few: Vec<(u8, u8)> = (0..1 + self.random.below(3))
-            .map(|_| (1 + self.random.below(3) as u8, 1 + self.random.below(3) as u8))
+            .map(|_| {
+                (
+                    1 + self.random.below(3) as u8,
+                    1 + self.random.below(3) as u8,
+                )
+            })
             .collect();
         (0..count).flat_map(|_| self.quiet(&few)).collect()
     }
@@ -240,7 +245,10 @@ impl Run {
         self.inputs += 1;
         if output.stdout != b"unreadable\n" {
             self.wrong += 1;
-            println!("a folder as input: {:?}", String::from_utf8_lossy(&output.stdout));
+            println!(
+                "a folder as input: {:?}",
+                String::from_utf8_lossy(&output.stdout)
+            );
         }
     }
 
@@ -320,7 +328,11 @@ pub fn main() -> i32 {
     if arguments.first().is_some_and(|word| word == "bench") {
         return crate::program_bench::main(&native);
     }
-    let number = |k: usize, other| arguments.get(k).map_or(other, |word| word.parse().expect("a number"));
+    let number = |k: usize, other| {
+        arguments
+            .get(k)
+            .map_or(other, |word| word.parse().expect("a number"))
+    };
     let seed = number(0, 1);
     let times = number(1, 4000) as usize;
     let mut run = Run {

@@ -53,7 +53,10 @@ fn library(bytes: &[u8]) -> f64 {
 fn program(program: &Path, file: &Path) -> f64 {
     let input = File::open(file).expect("the file");
     let begun = Instant::now();
-    let output = Command::new(program).stdin(input).output().expect("the program");
+    let output = Command::new(program)
+        .stdin(input)
+        .output()
+        .expect("the program");
     assert!(output.stdout.len() > 100, "all are accepted");
     begun.elapsed().as_secs_f64()
 }
@@ -83,17 +86,27 @@ pub fn main(native: &Path) -> i32 {
         }
     }
     let speed = |seconds: f64| bytes.len() as f64 / seconds / 1e6;
-    println!("{} bytes, {count} records, best of {ROUNDS} rounds", bytes.len());
+    println!(
+        "{} bytes, {count} records, best of {ROUNDS} rounds",
+        bytes.len()
+    );
     println!("| | MB/s | ns a record |\n|---|---:|---:|");
     let line = |name: &str, seconds: f64| {
-        println!("| {name} | {:.1} | {:.0} |", speed(seconds), seconds * 1e9 / count as f64);
+        println!(
+            "| {name} | {:.1} | {:.0} |",
+            speed(seconds),
+            seconds * 1e9 / count as f64
+        );
     };
     line("the program, from a file", ours);
     line("the library, in memory", theirs);
     println!("ratio program / library {:.3}", theirs / ours);
     let large = peak(native, &file);
     fs::write(&file, mixed(10_000_000).0).expect("a file");
-    println!("peak memory in KiB: {} on 10 MB, {large} on 100 MB", peak(native, &file));
+    println!(
+        "peak memory in KiB: {} on 10 MB, {large} on 100 MB",
+        peak(native, &file)
+    );
     let _ = fs::remove_file(&file);
     0
 }
