@@ -145,21 +145,12 @@ fn disagreeing_at(random: &mut Random, cells: &[u8; 9], place: usize) -> [u8; 9]
     pattern
 }
 
-/// The crate's side of two kinds of lines; from one place, so that it is inlined as before.
-fn their_matches(input: &Input) -> impl Sized + use<> {
-    input.matrix.matches(&input.text)
-}
-
-fn their_predicates(input: &Input) -> u32 {
-    asked::predicates(&input.matrix)
-}
-
 fn measure_matches(name: &str, inputs: &[Input]) {
     measure(
         name,
         Ours::asked_for(true),
         inputs,
-        their_matches,
+        |input| input.matrix.matches(&input.text),
         |input| linked::matches(&input.cells, input.text.as_bytes()),
         |input| rule::matches(&input.cells, input.text.as_bytes()),
     );
@@ -170,7 +161,7 @@ fn measure_predicates(name: &str, inputs: &[Input]) {
         name,
         Ours::asked_for(true),
         inputs,
-        their_predicates,
+        |input| asked::predicates(&input.matrix),
         |input| linked::predicates(&input.cells),
         |input| rule::predicates(&input.cells),
     );
@@ -187,7 +178,7 @@ fn measure_verdicts(name: &str, inputs: &[Input]) {
         name,
         Ours::asked_for(true),
         inputs,
-        their_predicates,
+        |input| asked::predicates(&input.matrix),
         |input| all_eleven(|which| linked::verdict(&input.cells, which)),
         |input| all_eleven(|which| rule_verdict::predicate(&input.cells, which)),
     );
@@ -199,7 +190,7 @@ fn measure_verdict_pattern(name: &str, inputs: &[Input]) {
         name,
         Ours::asked_for(true),
         inputs,
-        their_matches,
+        |input| input.matrix.matches(&input.text),
         |input| linked::verdict_pattern(&input.cells, input.text.as_bytes()),
         |input| rule_verdict::pattern(&input.cells, input.text.as_bytes()),
     );
