@@ -12,7 +12,7 @@ use misonkandi::{
 const FOLDER: &str = concat!(env!("CARGO_MANIFEST_DIR"), "/../../crates/replay/");
 
 fn bytes_of(hex: &str) -> Vec<u8> {
-    assert!(hex.is_ascii() && hex.len() % 2 == 0, "{hex}");
+    assert!(hex.is_ascii() && hex.len().is_multiple_of(2), "{hex}");
     let two = |at: usize| u8::from_str_radix(&hex[at..at + 2], 16).expect("two digits");
     (0..hex.len()).step_by(2).map(two).collect()
 }
