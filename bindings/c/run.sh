@@ -2,15 +2,17 @@
 # Compiles example.c with cc over the library, runs it, and compares what it prints with the file stdout.
 # MISONKANDI_LIB_DIR names a folder with the library, if one is built already.
 set -eu
+built=${MISONKANDI_LIB_DIR:+$(cd "$MISONKANDI_LIB_DIR" && pwd)}
 cd "$(dirname "$0")"
 
-if [ -z "${MISONKANDI_LIB_DIR:-}" ]; then
-    sh ../../oracle/library.sh
-    MISONKANDI_LIB_DIR=../../target/staticlib
+[ -n "$built" ] || sh ../../oracle/library.sh
+library=${built:-../../target/staticlib}/libgateway.a
+# The archive is x86-64 code. Elsewhere library.sh has compiled its module for the processor at hand, and put it beside.
+here=$(dirname "$library")/$(uname -m)
+if [ -d "$here" ]; then
+    cmp "$library" "$here/beside.a"
+    library=$here/libgateway.a
 fi
-# The archive is x86-64 code; elsewhere library.sh has compiled the same module for this processor.
-library=$MISONKANDI_LIB_DIR/libgateway.a
-[ "$(uname -m)" = x86_64 ] || library=$MISONKANDI_LIB_DIR/$(uname -m)/libgateway.a
 
 work=$(mktemp -d)
 trap 'rm -rf "$work"' EXIT

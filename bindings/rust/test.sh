@@ -3,13 +3,12 @@
 # itself is linked; elsewhere the same LLVM module, compiled for the processor at hand.
 # MISONKANDI_LIB_DIR names a folder with the library, if one is built already.
 set -eu
+built=${MISONKANDI_LIB_DIR:+$(cd "$MISONKANDI_LIB_DIR" && pwd)}
 cd "$(dirname "$0")"
 
-if [ -z "${MISONKANDI_LIB_DIR:-}" ]; then
-    sh ../../oracle/library.sh
-    MISONKANDI_LIB_DIR=$(cd ../../target/staticlib && pwd)
-    export MISONKANDI_LIB_DIR
-fi
+[ -n "$built" ] || sh ../../oracle/library.sh
+MISONKANDI_LIB_DIR=${built:-$(cd ../../target/staticlib && pwd)}
+export MISONKANDI_LIB_DIR
 
 cargo test --quiet
 cargo test --quiet --test replay -- --nocapture
