@@ -47,7 +47,16 @@ pub use star::{
 #[cfg(has_verdict)]
 pub use verdict::Verdict;
 
-/// geo's module of this name.
+/// geo's module of this name. geo's own example of reading a matrix, with `misonkandi` for `geo`:
+///
+/// ```
+/// use misonkandi::algorithm::relate::IntersectionMatrix;
+/// use std::str::FromStr;
+///
+/// let intersection_matrix = IntersectionMatrix::from_str("212101212").expect("valid DE-9IM specification");
+/// assert!(intersection_matrix.is_intersects());
+/// assert!(!intersection_matrix.is_contains());
+/// ```
 pub mod relate {
     pub use crate::matrix::IntersectionMatrix;
     pub use crate::refusal::InvalidInputError;
@@ -61,4 +70,9 @@ pub mod coordinate_position {
 /// geo's module of this name.
 pub mod dimensions {
     pub use crate::positions::Dimensions;
+}
+
+/// geo's module of this name: the three above, where geo has them too.
+pub mod algorithm {
+    pub use crate::{coordinate_position, dimensions, relate};
 }
