@@ -8,11 +8,12 @@
 A line for each mutant, and at the end how many were tried, refused, survived. The copy stands in target/mutants, with
 the crates below already proved, so that only the mutant's own crate is asked about. It is asked over what the prover
 kept of the crate unchanged (`rt dev`): that takes seconds. A mutant that is let through is asked about once more from
-nothing before it is said to survive.
+nothing before it is said to survive. `rt check` beforehand spares the copy the proofs of the crates below.
 
 What is said of a mutant:
 
-  refused    a fact fails, or a need isn't closed: the prover's own words for it are in the log
+  refused    a fact fails, or a need isn't closed: the prover's own words for it are in the log. It means that the proofs
+             as they stand don't carry the mutant; an equal program written otherwise may be refused too
   survived   the crate is proved with the mutant in it
   no answer  it didn't come to a fact: no such text in the file, a mistake of grammar or type, or a proof that names
              something which the changed code no longer has. The mutant must be written otherwise
@@ -98,25 +99,24 @@ def must_fail_texts(crate):
 
 
 # What the prover says of a need that it was to close by itself.
-OPEN = re.compile(r"^note: \S+ (it is not proved that .*)$|^fn \S+: no proof: .*(`search` does not close .*)$")
+OPEN = re.compile(r"^note: \S+/src/(\S+): (it is not proved that .*)$", re.M)
 
-# An error in the proof of a need, and the lines that belong to it.
-ERROR = re.compile(r"^\S+/Proof\.antt:\d+:\d+: error: (?P<need>`[^`]*`): (?P<said>.*(?:\n  .*)*)", re.M)
+# An error in the proof of a function's need, and the lines that belong to it.
+ERROR = re.compile(r"^\S+/(?P<fn>\w+)/Proof\.antt:\d+:\d+: error: (?P<need>`[^`]*`): (?P<said>.*(?:\n  .*)*)", re.M)
 
-# A search finds nothing, too, where what it was to use couldn't be read: that isn't counted.
-SEARCH = "`search`: no proof of"
+# A search finds nothing, too, where what it was to use couldn't be read: then it isn't counted.
+SEARCH = r"^`search`: no proof of"
 
-# What it says there where a fact fails: arithmetic with a counterexample, a search without a find, equations that don't
+# What is said there where a fact fails: arithmetic with a counterexample, a search without a find, equations that don't
 # join, two sides that stay different after rewriting, a fact that isn't the one asked for.
 FACTS = [
-    ("`omega`: the goal does not follow", "the goal does not follow"),
+    (r"^`omega`: the goal does not follow", "the goal does not follow"),
     (SEARCH, "no proof is found"),
-    ("before the equations had joined", "the equations don't join"),
-    ("the equations do not join", "the equations don't join"),
-    ("must be a path whose two ends are equal", "two sides stay different"),
-    ("computed as far as they go, the two types differ", "another fact than the one asked for"),
-    ("computed as far as they go, the two types first differ", "another fact than the one asked for"),
-    ("`: does not hold (", "an equation does not hold"),
+    (r"before the equations had joined", "the equations don't join"),
+    (r"must be a path whose two ends are equal", "two sides stay different"),
+    (r"the two types differ only where", "another fact than the one asked for"),
+    (r"^computed as far as they go, the two types first differ", "another fact than the one asked for"),
+    (r"`: does not hold \(", "an equation does not hold"),
 ]
 
 
@@ -133,21 +133,20 @@ def judge(status, log):
 def why_not_proved(log):
     """A fact that fails is an answer. Anything else is none: a name that isn't there, nothing to rewrite, a mistake of
     type; or what couldn't be checked because something else was refused."""
-    for line in log.splitlines():
-        found = OPEN.search(line)
-        if found:
-            return "refused", found.group(1) or found.group(2)
+    found = OPEN.search(log)
+    if found:
+        return "refused", f"{found[1]}: {found[2]}"
     failed, unread = [], []
     for error in ERROR.finditer(log):
-        need, said = error["need"], error["said"]
+        fn, need, said = error["fn"], error["need"], error["said"]
         if "was not admitted" in said:
             continue
-        words = [words for text, words in FACTS if text in said]
+        words = [words for text, words in FACTS if re.search(text, said)]
         if words:
-            failed.append((SEARCH in said, f"{need}: {words[0]}"))
+            failed.append((bool(re.search(SEARCH, said)), f"{fn}, {need}: {words[0]}"))
         else:
-            unread.append(f"{need}: {said}")
-    counted = [words for searched, words in sorted(failed) if not (searched and unread)]
+            unread.append(f"{fn}, {need}: {said}")
+    counted = [words for searched, words in failed if not (searched and unread)]
     if counted:
         return "refused", counted[0]
     return "no answer", " ".join(unread[0].split()) if unread else "not proved, and no word of why"
