@@ -114,8 +114,7 @@ FACTS = [
     (SEARCH, "no proof is found"),
     (r"before the equations had joined", "the equations don't join"),
     (r"must be a path whose two ends are equal", "two sides stay different"),
-    (r"the two types differ only where", "another fact than the one asked for"),
-    (r"^computed as far as they go, the two types first differ", "another fact than the one asked for"),
+    (r"the two types (are|differ|first differ)", "another fact than the one asked for"),
     (r"`: does not hold \(", "an equation does not hold"),
 ]
 
