@@ -38,6 +38,8 @@ static uint32_t call(uint8_t operation, uint32_t a, uint32_t b, uint8_t dimensio
     case 6: return misonkandi_set(cells, a, b, dimension);
     case 7: return misonkandi_set_at_least(cells, a, b, dimension);
     case 8: misonkandi_transpose(cells); return 0;
+    case 9: return misonkandi_verdict(cells, a);
+    case 10: return misonkandi_verdict_pattern(cells, text, count);
     }
     end(4);
     return 0;

@@ -7,8 +7,9 @@
 set -eu
 cd "$(dirname "$0")"
 if ! [ -e /usr/include/geos_c.h ]; then
-    apt-get update -qq
-    apt-get install -y -qq libgeos-dev
+    # What they say is no line of a sample.
+    apt-get update -qq >&2
+    apt-get install -y -qq libgeos-dev >&2
 fi
 out=$(mktemp -d)
 trap 'rm -rf "$out"' EXIT

@@ -1,5 +1,6 @@
 //! The crate's side: a call put to the crate's own code, and what it says.
 
+use crate::asked_verdict;
 use crate::coordinate_position::CoordPos;
 use crate::dimensions::Dimensions;
 use crate::ours::{Call, Op};
@@ -46,10 +47,15 @@ pub struct Said {
 pub fn matrix(cells: &[u8; 9]) -> IntersectionMatrix {
     let mut matrix = IntersectionMatrix::empty();
     for (place, cell) in rule::read(cells).into_iter().enumerate() {
-        let dimension = DIMENSIONS[cell as usize];
-        matrix.set(POSITIONS[place / 3], POSITIONS[place % 3], dimension);
+        put(&mut matrix, place, cell);
     }
     matrix
+}
+
+/// Sets one cell to a number of 0 to 3.
+pub fn put(matrix: &mut IntersectionMatrix, place: usize, cell: u8) {
+    let dimension = DIMENSIONS[cell as usize];
+    matrix.set(POSITIONS[place / 3], POSITIONS[place % 3], dimension);
 }
 
 pub fn cells(matrix: &IntersectionMatrix) -> [u8; 9] {
@@ -73,6 +79,8 @@ pub fn said(call: &Call) -> Option<Said> {
         Op::ToText => to_text(call),
         Op::Set => set(call),
         Op::SetAtLeast => set_at_least(call),
+        Op::Verdict => asked_verdict::predicate(call),
+        Op::VerdictPattern => asked_verdict::pattern(call),
         Op::Predicate | Op::Transpose => None,
     }
 }

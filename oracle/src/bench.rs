@@ -12,6 +12,7 @@ use crate::pieces::{agreeing_pattern, disagreeing, good_pattern, good_text};
 use crate::random::Random;
 use crate::relate::geomgraph::intersection_matrix::IntersectionMatrix;
 use crate::rule;
+use crate::rule_verdict;
 use std::hint::black_box;
 use std::str::FromStr;
 use std::time::Instant;
@@ -31,6 +32,14 @@ mod linked {
     }
 
     pub fn from_text(_: &mut [u8; 9], _: &[u8]) -> u32 {
+        unreachable!()
+    }
+
+    pub fn verdict(_: &[u8; 9], _: u32) -> u32 {
+        unreachable!()
+    }
+
+    pub fn verdict_pattern(_: &[u8; 9], _: &[u8]) -> u32 {
         unreachable!()
     }
 }
@@ -158,6 +167,35 @@ fn measure_predicates(name: &str, inputs: &[Input]) {
     );
 }
 
+/// Eleven verdicts in one number.
+fn all_eleven(verdict: impl Fn(u32) -> u32) -> u32 {
+    (0..11).fold(0, |all, which| 4 * all + verdict(which))
+}
+
+/// The crate has no verdict: its side is the eleven answers.
+fn measure_verdicts(name: &str, inputs: &[Input]) {
+    measure(
+        name,
+        Ours::asked_for(true),
+        inputs,
+        |input| asked::predicates(&input.matrix),
+        |input| all_eleven(|which| linked::verdict(&input.cells, which)),
+        |input| all_eleven(|which| rule_verdict::predicate(&input.cells, which)),
+    );
+}
+
+/// The crate has no verdict: its side is `matches` of the same pattern.
+fn measure_verdict_pattern(name: &str, inputs: &[Input]) {
+    measure(
+        name,
+        Ours::asked_for(true),
+        inputs,
+        |input| input.matrix.matches(&input.text),
+        |input| linked::verdict_pattern(&input.cells, input.text.as_bytes()),
+        |input| rule_verdict::pattern(&input.cells, input.text.as_bytes()),
+    );
+}
+
 fn measure_text_in(name: &str, inputs: &[Input]) {
     measure(
         name,
@@ -210,6 +248,18 @@ pub fn main() {
     let any = inputs(random, |random, _| good_pattern(random));
     measure_matches("`matches`, random good patterns", &any);
     measure_predicates("all eleven predicates of one matrix", &any);
+    measure_verdicts(
+        "verdicts of all eleven predicates, beside the crate's eleven answers",
+        &any,
+    );
+    measure_verdict_pattern(
+        "verdict of a random good pattern, beside the crate's `matches` of it",
+        &any,
+    );
+    measure_verdict_pattern(
+        "verdict of a pattern that agrees, beside the crate's `matches` of it",
+        &agrees,
+    );
     let texts = inputs(random, |random, _| good_text(random));
     measure_text_in("text in", &texts);
     bench_plans::measure_all(random);

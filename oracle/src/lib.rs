@@ -29,6 +29,7 @@ pub mod sample;
 
 mod asked;
 mod asked_star;
+mod asked_verdict;
 mod bench_plans;
 mod ours;
 mod pieces;
@@ -38,4 +39,6 @@ mod random;
 mod rule;
 mod rule_plan;
 mod rule_star;
+mod rule_verdict;
 mod sample_plans;
+mod sample_verdicts;

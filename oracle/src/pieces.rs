@@ -27,6 +27,12 @@ pub fn matrix_by_number(number: usize) -> [u8; 9] {
     std::array::from_fn(|place| (number >> (2 * (8 - place)) & 3) as u8)
 }
 
+pub fn number_of_matrix(cells: &[u8; 9]) -> usize {
+    cells
+        .iter()
+        .fold(0, |number, cell| 4 * number + usize::from(*cell))
+}
+
 /// A pattern letter that agrees with a cell of 0 to 3.
 pub fn agreeing(random: &mut Random, cell: u8) -> u8 {
     match cell {
@@ -47,6 +53,34 @@ pub fn disagreeing(random: &mut Random, cell: u8) -> u8 {
     }
 }
 
+/// A pattern letter that a cell can still come to agree with: one that stays agreed, or one that is open.
+pub fn in_reach(random: &mut Random, cell: u8) -> u8 {
+    match cell {
+        0 => random.pick(b"**TtFf012"),
+        1 => random.pick(b"**TtTt012"),
+        2 => random.pick(b"**TtTt12"),
+        _ => random.pick(b"**TtTt2"),
+    }
+}
+
+/// A pattern letter that a cell will agree with for good.
+pub fn settled(random: &mut Random, cell: u8) -> u8 {
+    match cell {
+        0 => b'*',
+        1 | 2 => random.pick(b"*Tt"),
+        _ => random.pick(b"*Tt2"),
+    }
+}
+
+/// A pattern letter that a cell can't come to agree with any more. There is none for F.
+pub fn out_of_reach(random: &mut Random, cell: u8) -> u8 {
+    match cell {
+        1 => random.pick(b"Ff"),
+        2 => random.pick(b"Ff0"),
+        _ => random.pick(b"Ff01"),
+    }
+}
+
 /// A pattern whose nine letters agree with the matrix.
 pub fn agreeing_pattern(random: &mut Random, cells: &[u8; 9]) -> [u8; 9] {
     cells.map(|cell| agreeing(random, cell))
@@ -58,6 +92,17 @@ pub fn good_pattern(random: &mut Random) -> [u8; 9] {
 
 pub fn good_text(random: &mut Random) -> [u8; 9] {
     std::array::from_fn(|_| random.pick(&TEXT_LETTERS))
+}
+
+/// A byte that no pattern may have; three in four are below 128, so that the crate can be asked.
+pub fn bad_byte(random: &mut Random) -> u8 {
+    let mask = if random.below(4) == 0 { 255 } else { 127 };
+    loop {
+        let byte = random.byte() & mask;
+        if !PATTERN_LETTERS.contains(&byte) {
+            return byte;
+        }
+    }
 }
 
 /// The text with the bytes from `place` on taken by a character of several bytes, if it fits.

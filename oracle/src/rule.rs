@@ -5,6 +5,7 @@
 //! to the crate's answers like ours.
 
 use crate::ours::{Call, Op};
+use crate::rule_verdict;
 
 /// Refusals are 256 times the number, plus the place where there is one.
 pub const BAD_CODE: u32 = 256 * 6;
@@ -47,6 +48,8 @@ pub fn outcome(call: &Call) -> Outcome {
         Op::Set => changed(call, set(call, |_, given| given)),
         Op::SetAtLeast => changed(call, set(call, u8::max)),
         Op::Transpose => changed(call, Ok(transposed(&call.cells))),
+        Op::Verdict => same(rule_verdict::predicate(&call.cells, call.a)),
+        Op::VerdictPattern => same(rule_verdict::pattern(&call.cells, call.text())),
     }
 }
 
@@ -62,7 +65,7 @@ fn changed(call: &Call, result: Result<[u8; 9], u32>) -> Outcome {
 }
 
 /// Whether a pattern's byte agrees with a dimension, or None for a bad byte.
-fn agrees(byte: u8, dimension: u8) -> Option<bool> {
+pub fn agrees(byte: u8, dimension: u8) -> Option<bool> {
     match byte {
         b'*' => Some(true),
         b'T' | b't' => Some(dimension != 0),

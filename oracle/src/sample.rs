@@ -11,6 +11,7 @@ use crate::pieces::{
 use crate::random::Random;
 use crate::rule::{self, Outcome};
 use crate::sample_plans;
+use crate::sample_verdicts;
 use std::fmt::Write;
 
 /// Never another one: the file must come out the same every time.
@@ -39,6 +40,10 @@ pub fn main() {
         write_line(&mut lines, &call);
     }
     sample_plans::write_lines(&mut lines, &mut random);
+    lines.push_str(sample_verdicts::HEAD);
+    for call in sample_verdicts::calls() {
+        write_line(&mut lines, &call);
+    }
     print!("{lines}");
 }
 
@@ -208,14 +213,14 @@ fn answer(call: &Call) -> Option<Outcome> {
             );
             Some(due)
         }
-        None => matches!(call.op, Op::Set | Op::SetAtLeast).then_some(due),
+        None => matches!(call.op, Op::Set | Op::SetAtLeast | Op::Verdict).then_some(due),
     }
 }
 
 /// A refused raising is the one case whose cells afterwards differ.
 fn agrees(call: &Call, due: &Outcome, said: &Said) -> bool {
     let refused_raising = call.op == Op::Raise && rule::refuses(due.word);
-    let same_cells = said.nine.is_none_or(|nine| nine == due.nine);
+    let same_cells = said.nine.is_none_or(|nine| nine == rule::read(&due.nine));
     said.answer.agrees_with(due.word) && (same_cells || refused_raising)
 }
 
@@ -227,6 +232,8 @@ fn letter(op: Op) -> char {
         Op::Raise => 'R',
         Op::Set => 'S',
         Op::SetAtLeast => 'L',
+        Op::Verdict => 'V',
+        Op::VerdictPattern => 'W',
         Op::Predicate | Op::ToText | Op::Transpose => unreachable!("not in the sample"),
     }
 }
@@ -239,6 +246,7 @@ fn write_line(lines: &mut String, call: &Call) {
     record.extend(call.cells);
     let text = match call.op {
         Op::Set | Op::SetAtLeast => vec![call.a as u8, call.b as u8, call.dimension],
+        Op::Verdict => vec![call.a as u8],
         _ => call.text().to_vec(),
     };
     record.push(text.len() as u8);

@@ -58,6 +58,18 @@ fn setting_at_least(r: Record) -> bool {
     (w == word(r)) & same_nine(cells, nine(r, 24))
 }
 
+fn verdict_of_predicate(r: Record) -> bool {
+    let cells = nine(r, 0);
+    gateway::verdicts::misonkandi_verdict(&cells, wide(r[10])) == word(r)
+}
+
+fn verdict_of_pattern(r: Record) -> bool {
+    let cells = nine(r, 0);
+    let bytes = text(r);
+    let n = count(r);
+    gateway::verdicts::misonkandi_verdict_pattern(&cells, &bytes[..n]) == word(r)
+}
+
 pub(crate) fn agrees(kind: u8, r: Record) -> bool {
     match kind {
         b'P' => predicates(r),
@@ -66,6 +78,8 @@ pub(crate) fn agrees(kind: u8, r: Record) -> bool {
         b'R' => raising(r),
         b'S' => setting(r),
         b'L' => setting_at_least(r),
+        b'V' => verdict_of_predicate(r),
+        b'W' => verdict_of_pattern(r),
         _ => false,
     }
 }

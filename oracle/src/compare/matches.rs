@@ -3,8 +3,8 @@
 use super::Run;
 use crate::ours::{Call, Op};
 use crate::pieces::{
-    PATTERN_LETTERS, SEVERAL_BYTES, agreeing, agreeing_pattern, disagreeing, good_pattern,
-    of_wrong_count, with_character,
+    PATTERN_LETTERS, SEVERAL_BYTES, agreeing, agreeing_pattern, bad_byte, disagreeing,
+    good_pattern, of_wrong_count, with_character,
 };
 
 pub fn compare(run: &mut Run) {
@@ -126,7 +126,7 @@ fn random_pairs(run: &mut Run) {
         let other = run.random.below(9);
         pattern[other] = run.random.pick(&PATTERN_LETTERS);
         let place = run.random.below(9);
-        pattern[place] = bad_byte(run);
+        pattern[place] = bad_byte(&mut run.random);
         ask(run, cells, &pattern);
     }
     run.begin("matches, random: bytes below 128");
@@ -140,17 +140,6 @@ fn random_pairs(run: &mut Run) {
         let cells = run.random.cells();
         let pattern = run.random.nine_bytes();
         ask(run, cells, &pattern);
-    }
-}
-
-/// A byte that no pattern may have; three in four are below 128, so that the crate can be asked.
-fn bad_byte(run: &mut Run) -> u8 {
-    let mask = if run.random.below(4) == 0 { 255 } else { 127 };
-    loop {
-        let byte = run.random.byte() & mask;
-        if !PATTERN_LETTERS.contains(&byte) {
-            return byte;
-        }
     }
 }
 

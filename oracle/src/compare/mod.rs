@@ -9,6 +9,7 @@ mod reports;
 mod stars;
 mod tally;
 mod text;
+mod verdicts;
 
 use crate::asked;
 use crate::ours::plans::PlanCall;
@@ -104,6 +105,7 @@ pub fn main() -> i32 {
     stars::compare(&mut run);
     records::compare(&mut run);
     reports::compare(&mut run);
+    verdicts::compare(&mut run);
     run.answer_waiting();
     run.tally.report()
 }

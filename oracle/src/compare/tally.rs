@@ -35,6 +35,8 @@ pub struct Tally {
     listed: BTreeMap<&'static str, Listed>,
     above_3_left: u64,
     above_3_written_as_3: u64,
+    /// Verdicts: no for good, yes for good, open.
+    verdicts: [u64; 3],
     pub(super) numbers: Numbers,
 }
 
@@ -69,9 +71,14 @@ impl Tally {
                 describe_answers(&due, said.as_ref(), reply)
             );
         }
+        let is_verdict = matches!(call.op, Op::Verdict | Op::VerdictPattern);
+        if is_verdict && due.word < 3 {
+            self.verdicts[due.word as usize] += 1;
+        }
         let count = self.count();
         count.calls += 1;
-        count.yes += u64::from(matches!(call.op, Op::Matches | Op::Predicate) && due.word == 1);
+        let yes_or_no = matches!(call.op, Op::Matches | Op::Predicate) || is_verdict;
+        count.yes += u64::from(yes_or_no && due.word == 1);
         count.refused += u64::from(call.op != Op::Predicates && rule::refuses(due.word));
         count.not_asked += u64::from(said.is_none());
         count.listed += u64::from(listed);
@@ -140,6 +147,8 @@ impl Tally {
             "accepted changes of a matrix with numbers above 3: {} times such a number still stood in some cell, {} times all nine were 0 to 3",
             self.above_3_left, self.above_3_written_as_3
         );
+        let [no, yes, open] = self.verdicts;
+        println!("verdicts: {yes} yes for good, {no} no for good, {open} open");
         let unmet = self.numbers.report();
         let total: u64 = self.kinds.iter().map(|(_, count)| count.calls).sum();
         let unlisted: u64 = self.kinds.iter().map(|(_, count)| count.unlisted).sum();
@@ -245,8 +254,10 @@ fn describe(call: &Call) -> String {
     let text = || format!("\"{}\"", call.text().escape_ascii());
     match call.op {
         Op::Predicates | Op::ToText | Op::Transpose => format!("{:?} of {cells}", call.op),
-        Op::Predicate => format!("predicate {} of {cells}", call.a),
-        Op::Matches | Op::FromText | Op::Raise => format!("{:?} {} on {cells}", call.op, text()),
+        Op::Predicate | Op::Verdict => format!("{:?} {} of {cells}", call.op, call.a),
+        Op::Matches | Op::FromText | Op::Raise | Op::VerdictPattern => {
+            format!("{:?} {} on {cells}", call.op, text())
+        }
         Op::Set | Op::SetAtLeast => format!(
             "{:?} ({}, {}) to {} on {cells}",
             call.op, call.a, call.b, call.dimension

@@ -14,6 +14,12 @@ mod c {
         pub fn misonkandi_set(cells: *mut u8, a: u32, b: u32, dimension: u8) -> u32;
         pub fn misonkandi_set_at_least(cells: *mut u8, a: u32, b: u32, dimension: u8) -> u32;
         pub fn misonkandi_transpose(cells: *mut u8);
+        pub fn misonkandi_verdict(cells: *const u8, which: u32) -> u32;
+        pub fn misonkandi_verdict_pattern(
+            cells: *const u8,
+            pattern: *const u8,
+            count: usize,
+        ) -> u32;
     }
     #[cfg(has_stars)]
     unsafe extern "C" {
@@ -103,6 +109,14 @@ pub fn transpose(cells: &mut [u8; 9]) {
     unsafe { c::misonkandi_transpose(cells.as_mut_ptr()) }
 }
 
+pub fn verdict(cells: &[u8; 9], which: u32) -> u32 {
+    unsafe { c::misonkandi_verdict(cells.as_ptr(), which) }
+}
+
+pub fn verdict_pattern(cells: &[u8; 9], pattern: &[u8]) -> u32 {
+    unsafe { c::misonkandi_verdict_pattern(cells.as_ptr(), pattern.as_ptr(), pattern.len()) }
+}
+
 pub fn bundle(ends: &[u8], label: &mut [u8; 7]) -> u32 {
     unsafe { c::misonkandi_bundle(ends.as_ptr(), ends.len(), label.as_mut_ptr()) }
 }
@@ -149,6 +163,8 @@ pub(super) fn answer(call: &Call) -> Raw {
             transpose(cells);
             0
         }
+        Op::Verdict => verdict(cells, call.a),
+        Op::VerdictPattern => verdict_pattern(cells, &text[..call.count]),
     };
     Raw { word, lent, text }
 }

@@ -33,6 +33,8 @@ pub enum Op {
     Set = 6,
     SetAtLeast = 7,
     Transpose = 8,
+    Verdict = 9,
+    VerdictPattern = 10,
 }
 
 /// One call. What an operation doesn't take is 0.
@@ -65,6 +67,13 @@ impl Call {
         Call {
             a: which,
             ..Call::plain(Op::Predicate, cells)
+        }
+    }
+
+    pub fn verdict(cells: [u8; 9], which: u32) -> Self {
+        Call {
+            a: which,
+            ..Call::plain(Op::Verdict, cells)
         }
     }
 

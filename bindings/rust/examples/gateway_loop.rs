@@ -1,0 +1,196 @@
+//! A gateway loop: it keeps one room's matrix, pours plan records into it, and stops asking as soon as the answer is for
+//! good.
+//!
+//!     cargo run --example gateway_loop              the records below
+//!     cargo run --example gateway_loop - < FILE     records from standard input, one after the other
+//!
+//! A is the gateway's cover area, B the room. The four questions stand for what the gateway does with a reading; a question
+//! that no further record can change is answered once and not asked again. When all are answered, the records that are
+//! left needn't be read.
+
+use std::env;
+use std::io::{self, Read};
+
+use misonkandi::{CoordPos, EdgeEnd, IntersectionMatrix, Label, Predicate, Sides};
+
+/// The questions of this gateway, and what it does at a yes.
+const QUESTIONS: [(Predicate, &str); 4] = [
+    (Predicate::Intersects, "readings may belong to the room"),
+    (Predicate::Within, "every reading belongs to the room"),
+    (
+        Predicate::Touches,
+        "a wall stands between: drop the readings",
+    ),
+    (
+        Predicate::Overlaps,
+        "some readings belong to the room: ask for the tag's place",
+    ),
+];
+
+/// What is kept of a room.
+struct Room {
+    matrix: IntersectionMatrix,
+    open: Vec<(Predicate, &'static str)>,
+}
+
+impl Room {
+    fn new() -> Room {
+        Room {
+            matrix: IntersectionMatrix::empty_disjoint(),
+            open: QUESTIONS.to_vec(),
+        }
+    }
+
+    /// Pours one record, or says why not; then the matrix is as it was. Answers the bytes used.
+    fn pour(&mut self, bytes: &[u8]) -> Option<usize> {
+        match self.matrix.pour_record(bytes) {
+            Ok(used) => {
+                println!("{used} bytes used, the matrix is {}", self.matrix);
+                Some(used)
+            }
+            Err(refusal) => {
+                println!("{refusal}; the matrix stays {}", self.matrix);
+                None
+            }
+        }
+    }
+
+    /// Asks the open questions, and keeps those that are still open.
+    fn ask(&mut self) {
+        let matrix = self.matrix;
+        self.open.retain(|&(question, deed)| {
+            let Some(yes) = for_good(&matrix, question) else {
+                return true;
+            };
+            match yes {
+                true => println!("    {question}: yes, for good: {deed}"),
+                false => println!("    {question}: no, for good"),
+            }
+            false
+        });
+    }
+
+    /// No record is left: what is still open is answered as the matrix stands.
+    fn close(&self) {
+        for &(question, deed) in &self.open {
+            match self.matrix.ask(question) {
+                true => println!("    {question}: yes, as it stands: {deed}"),
+                false => println!("    {question}: no, as it stands"),
+            }
+        }
+    }
+}
+
+/// The answer, if no further record can change it.
+#[cfg(has_verdict)]
+fn for_good(matrix: &IntersectionMatrix, question: Predicate) -> Option<bool> {
+    matrix.verdict(question).for_good()
+}
+
+/// A library without the verdict: every question stays open to the end.
+#[cfg(not(has_verdict))]
+fn for_good(_: &IntersectionMatrix, _: Predicate) -> Option<bool> {
+    None
+}
+
+/// Messages that came one by one: one that is refused is dropped, and the next is read.
+fn messages(room: &mut Room, records: &[(&str, Vec<u8>)]) {
+    for (place, (what, record)) in records.iter().enumerate() {
+        if room.open.is_empty() {
+            println!(
+                "all questions are answered: {} records needn't be read",
+                records.len() - place
+            );
+            return;
+        }
+        print!("{what}: ");
+        if room.pour(record).is_some() {
+            room.ask();
+        }
+    }
+}
+
+/// Records in one run of bytes: a record that is refused ends it, since nobody knows where the next one begins.
+fn run(room: &mut Room, bytes: &[u8]) {
+    let mut offset = 0;
+    while offset < bytes.len() && !room.open.is_empty() {
+        print!("record at {offset}: ");
+        let Some(used) = room.pour(&bytes[offset..]) else {
+            return;
+        };
+        offset += used;
+        room.ask();
+    }
+    println!("{offset} of {} bytes read", bytes.len());
+}
+
+fn main() -> io::Result<()> {
+    let mut room = Room::new();
+    println!("start: the matrix is {}", room.matrix);
+    if env::args().nth(1).as_deref() == Some("-") {
+        let mut bytes = Vec::new();
+        io::stdin().read_to_end(&mut bytes)?;
+        run(&mut room, &bytes);
+    } else {
+        messages(&mut room, &built_in());
+    }
+    room.close();
+    Ok(())
+}
+
+const I: Option<CoordPos> = Some(CoordPos::Inside);
+const B: Option<CoordPos> = Some(CoordPos::OnBoundary);
+const E: Option<CoordPos> = Some(CoordPos::Outside);
+
+/// An end of a wall: its direction, and for A and for B what lies on it, to its left, to its right.
+fn end(dx: i32, dy: i32, a: [Option<CoordPos>; 3], b: [Option<CoordPos>; 3]) -> EdgeEnd {
+    let half = |[on, left, right]: [Option<CoordPos>; 3]| Sides { on, left, right };
+    let label = Label {
+        area: true,
+        a: half(a),
+        b: half(b),
+    };
+    EdgeEnd { dx, dy, label }
+}
+
+/// A node record: where it lies in A and in B, in their areas, and the walls that end there.
+fn node(positions: [Option<CoordPos>; 4], ends: &[EdgeEnd]) -> Vec<u8> {
+    let length = 7 + 15 * ends.len() as u16;
+    let mut record = length.to_be_bytes().to_vec();
+    record.extend([1, 1]);
+    record.extend(positions.map(CoordPos::code));
+    record.push(ends.len() as u8);
+    record.extend(ends.iter().flat_map(|end| end.bytes()));
+    record
+}
+
+/// A floor's records, as they came in.
+fn built_in() -> Vec<(&'static str, Vec<u8>)> {
+    let none = [None; 3];
+    // Where the two outlines cross: A's runs north and south, B's east and west.
+    let crossing = [
+        end(2, 0, none, [B, I, E]),
+        end(0, 2, [B, I, E], none),
+        end(-2, 0, none, [B, E, I]),
+        end(0, -2, [B, E, I], none),
+    ];
+    let mut torn = node([B; 4], &crossing);
+    torn.truncate(40);
+    vec![
+        (
+            "a corner of the cover area, outside the room",
+            node([B, E, B, E], &[]),
+        ),
+        ("a message torn off on the way", torn),
+        (
+            "a corner of the room, on the cover area's outline",
+            node([B, B, B, B], &[]),
+        ),
+        ("where the outlines cross", node([B; 4], &crossing)),
+        (
+            "a corner of the room, outside the cover area",
+            node([E, B, E, B], &[]),
+        ),
+        ("the other crossing", node([B; 4], &crossing)),
+    ]
+}

@@ -1,0 +1,65 @@
+//! The eleven predicates by name.
+
+use std::fmt;
+
+/// One of the eleven predicates, in the order of document 01's table.
+#[derive(Clone, Copy, Debug, PartialEq, Eq, Hash)]
+#[allow(missing_docs)]
+pub enum Predicate {
+    Disjoint,
+    Intersects,
+    Within,
+    Contains,
+    EqualTopo,
+    CoveredBy,
+    Covers,
+    ContainsProperly,
+    Touches,
+    Crosses,
+    Overlaps,
+}
+
+impl Predicate {
+    /// All of them, in order.
+    pub const ALL: [Predicate; 11] = [
+        Predicate::Disjoint,
+        Predicate::Intersects,
+        Predicate::Within,
+        Predicate::Contains,
+        Predicate::EqualTopo,
+        Predicate::CoveredBy,
+        Predicate::Covers,
+        Predicate::ContainsProperly,
+        Predicate::Touches,
+        Predicate::Crosses,
+        Predicate::Overlaps,
+    ];
+
+    /// Its place in the order, from 0: the library's number for it.
+    pub const fn number(self) -> u32 {
+        self as u32
+    }
+
+    /// Its name in document 01.
+    pub const fn name(self) -> &'static str {
+        match self {
+            Predicate::Disjoint => "disjoint",
+            Predicate::Intersects => "intersects",
+            Predicate::Within => "within",
+            Predicate::Contains => "contains",
+            Predicate::EqualTopo => "equal_topo",
+            Predicate::CoveredBy => "coveredby",
+            Predicate::Covers => "covers",
+            Predicate::ContainsProperly => "contains_properly",
+            Predicate::Touches => "touches",
+            Predicate::Crosses => "crosses",
+            Predicate::Overlaps => "overlaps",
+        }
+    }
+}
+
+impl fmt::Display for Predicate {
+    fn fmt(&self, f: &mut fmt::Formatter<'_>) -> fmt::Result {
+        f.pad(self.name())
+    }
+}

@@ -1,0 +1,141 @@
+//! Why a call was refused: document 01's thirteen numbers.
+
+use std::error::Error;
+use std::fmt;
+
+/// Why a call was refused. A refused call changes nothing that it was lent.
+///
+/// The numbers are those of document 01's table "Numbers the caller sees". Under which condition each is given, and in
+/// which order they are looked at, is proved of the operation that gives it: `crates/de9im/specs/Patterns.antt` and
+/// `Text.antt` for 10 and 11, `crates/plan/specs/Record.antt` and `Report.antt` for records and reports,
+/// `crates/star/specs/Calls.antt` for ends, `crates/place/specs/Relate.antt` for 13.
+#[derive(Clone, Copy, Debug, PartialEq, Eq, Hash)]
+pub enum Refusal {
+    /// 1: fewer bytes than the length field needs or promises.
+    Short,
+    /// 2: version not 1.
+    Version,
+    /// 3: kind not 1 or 2.
+    Kind,
+    /// 4: length wrong for its kind, or for a report; of ends, bytes that are no whole ends.
+    Length,
+    /// 5: more than 32 ends.
+    Ends,
+    /// 6: position code above 3, or node position 0.
+    PositionCode,
+    /// 7: label kind above 1, or a line label with a side.
+    LabelKind,
+    /// 8: direction 0,0 or a part beyond ±2,000,000,000.
+    Direction,
+    /// 9: for one geometry, some area bundle has a left and some has a right but no left.
+    MissingLeft,
+    /// 10: text or pattern not nine bytes.
+    NotNineBytes,
+    /// 11: a bad byte in a text, pattern or report, with the first one's place, 0 to 8.
+    BadByte(usize),
+    /// 12: offset beyond the buffer, or fewer than 12 bytes from it.
+    NoRoom,
+    /// 13: a coordinate not finite, or a box without min < max on both axes.
+    NotAPlace,
+}
+
+/// The name of geo's error of `matches` and `from_str`. Here it is the refusal, which has a number and a place where
+/// geo's has a text.
+pub type InvalidInputError = Refusal;
+
+impl Refusal {
+    /// Document 01's number, 1 to 13.
+    pub const fn number(self) -> u32 {
+        match self {
+            Refusal::Short => 1,
+            Refusal::Version => 2,
+            Refusal::Kind => 3,
+            Refusal::Length => 4,
+            Refusal::Ends => 5,
+            Refusal::PositionCode => 6,
+            Refusal::LabelKind => 7,
+            Refusal::Direction => 8,
+            Refusal::MissingLeft => 9,
+            Refusal::NotNineBytes => 10,
+            Refusal::BadByte(_) => 11,
+            Refusal::NoRoom => 12,
+            Refusal::NotAPlace => 13,
+        }
+    }
+
+    /// The bad byte's place, 0 to 8. Only 11 has one.
+    pub const fn place(self) -> Option<usize> {
+        match self {
+            Refusal::BadByte(place) => Some(place),
+            _ => None,
+        }
+    }
+
+    /// What a word of the library refuses for: 256 times the number, plus the place. The library gives no other word
+    /// (`wordOf` in crates/gateway/specs/Words.antt).
+    pub(crate) fn of_word(word: u32) -> Refusal {
+        match word / 256 {
+            1 => Refusal::Short,
+            2 => Refusal::Version,
+            3 => Refusal::Kind,
+            4 => Refusal::Length,
+            5 => Refusal::Ends,
+            6 => Refusal::PositionCode,
+            7 => Refusal::LabelKind,
+            8 => Refusal::Direction,
+            9 => Refusal::MissingLeft,
+            10 => Refusal::NotNineBytes,
+            11 => Refusal::BadByte((word % 256) as usize),
+            12 => Refusal::NoRoom,
+            13 => Refusal::NotAPlace,
+            _ => unreachable!("the library is proved to give no such word: {word}"),
+        }
+    }
+
+    const fn words(self) -> &'static str {
+        match self {
+            Refusal::Short => "fewer bytes than the length field needs or promises",
+            Refusal::Version => "version not 1",
+            Refusal::Kind => "kind not 1 or 2",
+            Refusal::Length => "length wrong for its kind",
+            Refusal::Ends => "more than 32 ends",
+            Refusal::PositionCode => "position code above 3, or node position 0",
+            Refusal::LabelKind => "label kind above 1, or a line label with a side",
+            Refusal::Direction => "direction 0,0 or a part beyond 2,000,000,000",
+            Refusal::MissingLeft => "an area bundle with a right and no left",
+            Refusal::NotNineBytes => "not nine bytes",
+            Refusal::BadByte(_) => "bad byte",
+            Refusal::NoRoom => "no room for twelve bytes from the offset",
+            Refusal::NotAPlace => "a coordinate not finite, or a box without min < max",
+        }
+    }
+}
+
+/// As the program of document 01 writes it, `refused 11 at 2`, and then what it means.
+impl fmt::Display for Refusal {
+    fn fmt(&self, f: &mut fmt::Formatter<'_>) -> fmt::Result {
+        write!(f, "refused {}", self.number())?;
+        if let Some(place) = self.place() {
+            write!(f, " at {place}")?;
+        }
+        write!(f, ": {}", self.words())
+    }
+}
+
+impl Error for Refusal {}
+
+/// A word that is 0 or a refusal.
+pub(crate) fn accepted(word: u32) -> Result<(), Refusal> {
+    match word {
+        0 => Ok(()),
+        _ => Err(Refusal::of_word(word)),
+    }
+}
+
+/// A word that is the bytes used, or 2^31 plus a refusal.
+pub(crate) fn used(word: u32) -> Result<usize, Refusal> {
+    match word.checked_sub(1 << 31) {
+        None => Ok(word as usize),
+        Some(refusal) => Err(Refusal::of_word(refusal)),
+    }
+}

@@ -1,0 +1,162 @@
+//! Edge ends, labels, bundles and stars.
+
+use crate::c;
+use crate::positions::CoordPos;
+use crate::refusal::{Refusal, accepted};
+
+/// What one geometry says of an edge: a position on it and, for an area's edge, to its left and to its right.
+#[derive(Clone, Copy, Debug, PartialEq, Eq, Hash, Default)]
+pub struct Sides {
+    /// On the edge.
+    pub on: Option<CoordPos>,
+    /// To its left.
+    pub left: Option<CoordPos>,
+    /// To its right.
+    pub right: Option<CoordPos>,
+}
+
+/// What both geometries say of an edge. Both halves are of one kind, as geo's `Label::new` makes them.
+#[derive(Clone, Copy, Debug, PartialEq, Eq, Hash, Default)]
+pub struct Label {
+    /// An area's label; else that of a line or a point, which has no sides.
+    pub area: bool,
+    /// What A says.
+    pub a: Sides,
+    /// What B says.
+    pub b: Sides,
+}
+
+/// An edge end at a node: its direction in whole numbers, and its label.
+#[derive(Clone, Copy, Debug, PartialEq, Eq, Hash)]
+pub struct EdgeEnd {
+    /// To the east.
+    pub dx: i32,
+    /// To the north.
+    pub dy: i32,
+    /// What the geometries say of the edge.
+    pub label: Label,
+}
+
+/// Bytes of a label in a record.
+pub const LABEL_BYTES: usize = 7;
+
+/// Bytes of an end in a record.
+pub const END_BYTES: usize = 15;
+
+/// The most ends that a node may have.
+pub const MOST_ENDS: usize = 32;
+
+impl Sides {
+    fn bytes(self) -> [u8; 3] {
+        [self.on, self.left, self.right].map(CoordPos::code)
+    }
+
+    fn of_bytes(bytes: [u8; 3]) -> Option<Sides> {
+        let [on, left, right] = bytes.map(CoordPos::of_code);
+        Some(Sides {
+            on: on?,
+            left: left?,
+            right: right?,
+        })
+    }
+}
+
+impl Label {
+    /// The seven bytes of a record: kind, then on, left, right of A, then of B.
+    pub fn bytes(self) -> [u8; LABEL_BYTES] {
+        let [on_a, left_a, right_a] = self.a.bytes();
+        let [on_b, left_b, right_b] = self.b.bytes();
+        [
+            self.area.into(),
+            on_a,
+            left_a,
+            right_a,
+            on_b,
+            left_b,
+            right_b,
+        ]
+    }
+
+    /// The label of seven bytes, or nothing for a kind above 1 or a code above 3.
+    pub fn of_bytes(bytes: [u8; LABEL_BYTES]) -> Option<Label> {
+        let [kind, on_a, left_a, right_a, on_b, left_b, right_b] = bytes;
+        Some(Label {
+            area: match kind {
+                0 => false,
+                1 => true,
+                _ => return None,
+            },
+            a: Sides::of_bytes([on_a, left_a, right_a])?,
+            b: Sides::of_bytes([on_b, left_b, right_b])?,
+        })
+    }
+}
+
+impl EdgeEnd {
+    /// The fifteen bytes of a record: dx, dy (four bytes each, signed, the high byte first) and the label.
+    pub fn bytes(self) -> [u8; END_BYTES] {
+        let mut bytes = [0; END_BYTES];
+        bytes[..4].copy_from_slice(&self.dx.to_be_bytes());
+        bytes[4..8].copy_from_slice(&self.dy.to_be_bytes());
+        bytes[8..].copy_from_slice(&self.label.bytes());
+        bytes
+    }
+}
+
+fn bytes_of(ends: &[EdgeEnd]) -> Vec<u8> {
+    ends.iter().flat_map(|end| end.bytes()).collect()
+}
+
+fn label_of(bytes: [u8; LABEL_BYTES]) -> Label {
+    Label::of_bytes(bytes).expect("the library writes kinds and codes that there are")
+}
+
+/// Joins all ends into the label of one bundle; their directions are not compared.
+///
+/// Refused: 5; then each end in turn 8, 7. Promised: `bundledOf`, crates/star/specs/Calls.antt; the order of the ends doesn't
+/// matter (`join-shuffled`, crates/star/proofs/LawsJoin.antt).
+pub fn bundle(ends: &[EdgeEnd]) -> Result<Label, Refusal> {
+    bundle_of_bytes(&bytes_of(ends)).map(label_of)
+}
+
+/// The same of bytes: fifteen for an end, as in a record, and seven for the label.
+///
+/// Refused: 4 if they are no whole ends; 5; each end in turn 8, label kind 7, codes 6, sides 7.
+pub fn bundle_of_bytes(ends: &[u8]) -> Result<[u8; LABEL_BYTES], Refusal> {
+    let mut label = [0; LABEL_BYTES];
+    accepted(c::bundle(ends, &mut label))?;
+    Ok(label)
+}
+
+/// The completed labels of a star: the ends sorted into bundles, counterclockwise from the east, joined and completed.
+/// `area_a` and `area_b` are the node's positions in A's and in B's area, none where that one is no area.
+///
+/// Refused: 5; each end in turn 8, 7; last 9. Promised: `starCall`, crates/star/specs/Calls.antt; there is one way to put ends
+/// into bundles in order (`only-order`, crates/star/proofs/LawsUnique.antt).
+pub fn star(
+    ends: &[EdgeEnd],
+    area_a: Option<CoordPos>,
+    area_b: Option<CoordPos>,
+) -> Result<Vec<Label>, Refusal> {
+    let (a, b) = (CoordPos::code(area_a), CoordPos::code(area_b));
+    let labels = star_of_bytes(&bytes_of(ends), a.into(), b.into())?;
+    Ok(labels.into_iter().map(label_of).collect())
+}
+
+/// The same of bytes: fifteen for an end, as in a record, and seven for each label.
+///
+/// Refused: 6 for an area code above 3, before anything else; 4 if the bytes are no whole ends; 5; each end in turn 8, label
+/// kind 7, codes 6, sides 7; last 9.
+pub fn star_of_bytes(
+    ends: &[u8],
+    area_a: u32,
+    area_b: u32,
+) -> Result<Vec<[u8; LABEL_BYTES]>, Refusal> {
+    let mut labels = [0; MOST_ENDS * LABEL_BYTES];
+    let word = c::star(ends, area_a, area_b, &mut labels);
+    if word > MOST_ENDS as u32 {
+        return Err(Refusal::of_word(word));
+    }
+    let (whole, _) = labels.as_chunks::<LABEL_BYTES>();
+    Ok(whole[..word as usize].to_vec())
+}

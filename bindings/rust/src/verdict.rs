@@ -1,0 +1,67 @@
+//! The early verdict: what no further record can change.
+
+use crate::c;
+use crate::matrix::IntersectionMatrix;
+use crate::predicate::Predicate;
+use crate::refusal::Refusal;
+
+/// What is known already of an answer, whatever accepted records are still poured into the matrix.
+#[derive(Clone, Copy, Debug, PartialEq, Eq, Hash)]
+pub enum Verdict {
+    /// Yes now, and after any records.
+    YesForGood,
+    /// No now, and after any records.
+    NoForGood,
+    /// Some records would make it a yes, some a no.
+    Open,
+}
+
+impl Verdict {
+    /// The answer, if it is for good.
+    pub const fn for_good(self) -> Option<bool> {
+        match self {
+            Verdict::YesForGood => Some(true),
+            Verdict::NoForGood => Some(false),
+            Verdict::Open => None,
+        }
+    }
+
+    fn of_word(word: u32) -> Result<Verdict, Refusal> {
+        match word {
+            0 => Ok(Verdict::NoForGood),
+            1 => Ok(Verdict::YesForGood),
+            2 => Ok(Verdict::Open),
+            _ => Err(Refusal::of_word(word)),
+        }
+    }
+}
+
+impl IntersectionMatrix {
+    /// What is known of a predicate's answer, whatever records are still accepted. Each of the three answers is given exactly
+    /// when it is true, over runs of accepted records.
+    ///
+    /// ```
+    /// use misonkandi::{IntersectionMatrix, Predicate, Verdict};
+    ///
+    /// let matrix = IntersectionMatrix::from_bytes(b"0FFFFFFF2").unwrap();
+    /// assert_eq!(matrix.verdict(Predicate::Intersects), Verdict::YesForGood);
+    /// assert_eq!(matrix.verdict(Predicate::Touches), Verdict::NoForGood);
+    /// assert_eq!(matrix.verdict(Predicate::Within), Verdict::Open);
+    /// ```
+    pub fn verdict(&self, predicate: Predicate) -> Verdict {
+        let word = c::verdict(&self.cells(), predicate.number());
+        Verdict::of_word(word).expect("the library knows every predicate")
+    }
+
+    /// The same of a pattern, which is checked whole before any cell is looked at.
+    ///
+    /// Refused: 10 for another count of bytes than nine; 11 with the first bad byte's place.
+    pub fn verdict_of_pattern(&self, spec: &str) -> Result<Verdict, Refusal> {
+        self.verdict_of_pattern_bytes(spec.as_bytes())
+    }
+
+    /// [`verdict_of_pattern`](Self::verdict_of_pattern) of any bytes.
+    pub fn verdict_of_pattern_bytes(&self, spec: &[u8]) -> Result<Verdict, Refusal> {
+        Verdict::of_word(c::verdict_pattern(&self.cells(), spec))
+    }
+}

@@ -1,0 +1,27 @@
+#!/bin/sh
+# Builds the library as oracle/library.sh does, tests this crate against it, and runs the example. On x86-64 the archive
+# itself is linked; elsewhere the same LLVM module, compiled for the processor at hand.
+# MISONKANDI_LIB_DIR names a folder with the library, if one is built already.
+set -eu
+built=${MISONKANDI_LIB_DIR:+$(cd "$MISONKANDI_LIB_DIR" && pwd)}
+cd "$(dirname "$0")"
+
+[ -n "$built" ] || sh ../../oracle/library.sh
+MISONKANDI_LIB_DIR=${built:-$(cd ../../target/staticlib && pwd)}
+export MISONKANDI_LIB_DIR
+
+cargo test --quiet
+cargo test --quiet --test replay -- --nocapture
+
+# The example, on its own records and on a run of bytes: a node, an isolated edge, and one that is cut short.
+new=$(mktemp)
+trap 'rm -f "$new"' EXIT
+{
+    cargo run --quiet --example gateway_loop
+    echo
+    printf '\0\7\1\1\2\3\0\0\0\0\11\1\2\1\2\1\3\2\1\3\0\7\1\1' | cargo run --quiet --example gateway_loop -
+} >"$new"
+stored=examples/gateway_loop.stdout
+grep -q misonkandi_verdict "$MISONKANDI_LIB_DIR/libgateway.a" || stored=examples/gateway_loop.no-verdict.stdout
+diff "$stored" "$new"
+echo "the example prints what $stored has"

@@ -1,0 +1,122 @@
+//! The sample's lines of verdicts.
+
+use crate::ours::{Call, Op};
+use crate::pieces::{
+    PATTERN_LETTERS, SEVERAL_BYTES, good_pattern, in_reach, of_wrong_count, out_of_reach, settled,
+    with_character,
+};
+use crate::random::Random;
+use crate::rule;
+
+/// Of its own, so that other lines don't hang on these.
+const SEED: u64 = 3;
+/// The longest text that a line has room for.
+const ROOM: usize = 12;
+/// How many matrices are drawn for a predicate, and how many of each answer are kept. 2,000 are enough: an answer that
+/// a predicate has at all, it has on more than one matrix in a hundred of those drawn.
+const DRAWN: usize = 2000;
+const KEPT: usize = 16;
+
+pub const HEAD: &str = "\
+# Verdicts, from the crate's answers to every matrix that is at least as large in all cells; our library was not asked.
+# V of a predicate, W of a pattern: a line as M's. V's text is one byte, the predicate's place in P's order. The answer is
+# 1 yes for good, 0 no for good, 2 open; V: 3 if there is no such predicate; W: or a refusal. A cell given above 3 is
+# read as 3. Document 01 alone gives the numbers and places of refusals, the C interface alone that 3.
+";
+
+pub fn calls() -> Vec<Call> {
+    let random = &mut Random::new(SEED);
+    let mut calls = predicates(random);
+    calls.extend(patterns(random));
+    calls.extend(bad_patterns(random));
+    calls
+}
+
+/// Cells of all kinds, with few F and with many; now and then one above 3.
+fn cells(random: &mut Random) -> [u8; 9] {
+    let mut cells = random.cells();
+    if random.below(16) == 0 {
+        cells = random.cells_above_3();
+    }
+    let kept = random.next() | random.pick(&[0, 0, !0]);
+    for (place, cell) in cells.iter_mut().enumerate() {
+        *cell *= (kept >> place & 1) as u8;
+    }
+    cells
+}
+
+/// Each answer of each predicate, some matrices each; then numbers without a predicate.
+fn predicates(random: &mut Random) -> Vec<Call> {
+    let mut calls = Vec::new();
+    for which in 0..11 {
+        let mut kept = [0; 3];
+        for _ in 0..DRAWN {
+            let call = Call::verdict(cells(random), which);
+            let answer = rule::outcome(&call).word as usize;
+            if kept[answer] < KEPT {
+                kept[answer] += 1;
+                calls.push(call);
+            }
+        }
+    }
+    for which in [11, 12, 13, 16, 27, 128, 255] {
+        calls.push(Call::verdict(cells(random), which));
+    }
+    calls
+}
+
+fn call(cells: [u8; 9], pattern: &[u8]) -> Call {
+    Call::with_text(Op::VerdictPattern, cells, pattern)
+}
+
+/// P7 and P8; then letters that the cells agree with for good, or still can, or can't any more.
+fn patterns(random: &mut Random) -> Vec<Call> {
+    let start = [0, 0, 0, 0, 0, 0, 0, 0, 3];
+    let mut inside = start;
+    inside[0] = 1;
+    let mut calls = vec![
+        call(start, b"T*X******"),
+        call(start, b"FF*FF****"),
+        call(inside, b"FF*FF****"),
+    ];
+    for _ in 0..60 {
+        let given = cells(random);
+        let mut read = rule::read(&given);
+        calls.push(call(given, &read.map(|cell| settled(random, cell))));
+        let pattern = read.map(|cell| in_reach(random, cell));
+        calls.push(call(given, &pattern));
+        let place = random.below(9);
+        read[place] = read[place].max(1);
+        let mut pattern = pattern;
+        pattern[place] = out_of_reach(random, read[place]);
+        calls.push(call(read, &pattern));
+        calls.push(call(given, &good_pattern(random)));
+    }
+    calls
+}
+
+/// A bad byte at each place, also behind a letter out of reach; characters of several bytes; wrong counts.
+fn bad_patterns(random: &mut Random) -> Vec<Call> {
+    let mut calls = Vec::new();
+    for place in 0..9 {
+        for bad in [0, b' ', b'+', b'/', b'3', b'E', b'U', b'g', b'x', 127] {
+            let given = cells(random);
+            let mut pattern = good_pattern(random);
+            pattern[place] = bad;
+            calls.push(call(given, &pattern));
+        }
+        for character in SEVERAL_BYTES {
+            let given = cells(random);
+            if let Some(pattern) = with_character(&good_pattern(random), place, character) {
+                calls.push(call(given, &pattern));
+            }
+        }
+    }
+    for count in (0..=ROOM).filter(|count| *count != 9) {
+        for _ in 0..5 {
+            let pattern = of_wrong_count(random, &PATTERN_LETTERS, count);
+            calls.push(call(cells(random), &pattern));
+        }
+    }
+    calls
+}
