@@ -5,8 +5,8 @@ use std::collections::BTreeMap;
 use std::fs;
 
 use misonkandi::{
-    EdgeEnd, IntersectionMatrix, LABEL_BYTES, Label, Place, Predicate, Refusal, relate_coded, star,
-    star_of_bytes,
+    EdgeEnd, IntersectionMatrix, LABEL_BYTES, Label, Place, Predicate, Refusal, Verdict, relate_coded,
+    star, star_of_bytes,
 };
 
 const FOLDER: &str = concat!(env!("CARGO_MANIFEST_DIR"), "/../../crates/replay/");
@@ -38,7 +38,16 @@ fn changed(answer: Result<(), Refusal>) -> u32 {
     answer.map_or_else(word_of, |()| 0)
 }
 
-/// P, M, T, R, S and L: cells given, count of text bytes, text, answer, cells after.
+/// 1 yes for good, 0 no for good, 2 open.
+fn verdict_word(verdict: Verdict) -> u32 {
+    match verdict {
+        Verdict::NoForGood => 0,
+        Verdict::YesForGood => 1,
+        Verdict::Open => 2,
+    }
+}
+
+/// P, M, T, R, S, L, V and W: cells given, count of text bytes, text, answer, cells after.
 fn matrix_line(kind: char, line: &[u8]) {
     let given = nine(&line[..9]);
     let text = &line[10..10 + usize::from(line[9])];
@@ -79,6 +88,18 @@ fn matrix_line(kind: char, line: &[u8]) {
             }
         }
         'R' => assert_eq!(changed(matrix.set_at_least_from_bytes(text)), word),
+        // A number that no predicate has can't be said with types.
+        'V' => match Predicate::ALL.get(usize::from(text[0])) {
+            Some(&predicate) => assert_eq!(verdict_word(matrix.verdict(predicate)), word),
+            None => assert_eq!(word, 3),
+        },
+        'W' => {
+            let answer = matrix.verdict_of_pattern_bytes(text);
+            assert_eq!(answer.map_or_else(word_of, verdict_word), word);
+            if let Ok(text) = str::from_utf8(text) {
+                assert_eq!(matrix.verdict_of_pattern(text), answer);
+            }
+        }
         'S' => {
             let (a, b, dimension) = (text[0].into(), text[1].into(), text[2]);
             assert_eq!(changed(matrix.set_coded(a, b, dimension)), word);
@@ -189,7 +210,7 @@ fn every_stored_answer() {
         let (kind, hex) = line.split_at(1);
         let (kind, bytes) = (kind.chars().next().expect("a letter"), bytes_of(hex));
         match kind {
-            'P' | 'M' | 'T' | 'R' | 'S' | 'L' => matrix_line(kind, &bytes),
+            'P' | 'M' | 'T' | 'R' | 'S' | 'L' | 'V' | 'W' => matrix_line(kind, &bytes),
             'N' => record_line(&bytes),
             'K' => star_line(&bytes),
             'G' => place_line(&bytes),
