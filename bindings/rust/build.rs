@@ -22,12 +22,6 @@ fn processor(archive: &[u8]) -> &'static str {
         .expect("the library is for a processor of the list")
 }
 
-/// Whether the archive has a function. Its name stands in the symbol table with a zero after it.
-fn has(archive: &[u8], name: &str) -> bool {
-    let symbol = [name.as_bytes(), b"\0"].concat();
-    archive.windows(symbol.len()).any(|window| window == symbol)
-}
-
 fn read(path: &Path) -> Vec<u8> {
     println!("cargo:rerun-if-changed={}", path.display());
     fs::read(path).unwrap_or_else(|error| {
@@ -56,15 +50,11 @@ fn folder_to_link(place: &Path, archive: &[u8]) -> PathBuf {
 fn main() {
     println!("cargo:rerun-if-changed=build.rs");
     println!("cargo:rerun-if-env-changed=MISONKANDI_LIB_DIR");
-    println!("cargo:rustc-check-cfg=cfg(has_verdict)");
     let named =
         env::var_os("MISONKANDI_LIB_DIR").unwrap_or_else(|| "../../target/staticlib".into());
     let manifest = env::var_os("CARGO_MANIFEST_DIR").expect("cargo gives it");
     let place = PathBuf::from(manifest).join(named);
     let archive = read(&place.join("libgateway.a"));
-    if has(&archive, "misonkandi_verdict") {
-        println!("cargo:rustc-cfg=has_verdict");
-    }
     let folder = folder_to_link(&place, &archive);
     println!(
         "cargo:rerun-if-changed={}",

@@ -82,15 +82,8 @@ impl Room {
 }
 
 /// The answer, if no further record can change it.
-#[cfg(has_verdict)]
 fn for_good(matrix: &IntersectionMatrix, question: Predicate) -> Option<bool> {
     matrix.verdict(question).for_good()
-}
-
-/// A library without the verdict: every question stays open to the end.
-#[cfg(not(has_verdict))]
-fn for_good(_: &IntersectionMatrix, _: Predicate) -> Option<bool> {
-    None
 }
 
 /// Messages that came one by one: one that is refused is dropped, and the next is read.

@@ -40,9 +40,6 @@ mod declared {
             count: usize,
             offset: usize,
         ) -> u32;
-    }
-    #[cfg(has_verdict)]
-    unsafe extern "C" {
         pub fn misonkandi_verdict(cells: *const u8, which: u32) -> u32;
         pub fn misonkandi_verdict_pattern(
             cells: *const u8,
@@ -125,12 +122,10 @@ pub fn write_report(cells: &[u8; 9], buffer: &mut [u8], offset: usize) -> u32 {
     unsafe { declared::misonkandi_write_report(cells.as_ptr(), start, count, offset) }
 }
 
-#[cfg(has_verdict)]
 pub fn verdict(cells: &[u8; 9], which: u32) -> u32 {
     unsafe { declared::misonkandi_verdict(cells.as_ptr(), which) }
 }
 
-#[cfg(has_verdict)]
 pub fn verdict_pattern(cells: &[u8; 9], pattern: &[u8]) -> u32 {
     let (start, count) = (pattern.as_ptr(), pattern.len());
     unsafe { declared::misonkandi_verdict_pattern(cells.as_ptr(), start, count) }

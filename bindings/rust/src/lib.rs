@@ -32,7 +32,6 @@ mod positions;
 mod predicate;
 mod refusal;
 mod star;
-#[cfg(has_verdict)]
 mod verdict;
 
 pub use matrix::{IntersectionMatrix, REPORT_BYTES};
@@ -44,7 +43,6 @@ pub use star::{
     END_BYTES, EdgeEnd, LABEL_BYTES, Label, MOST_ENDS, Sides, bundle, bundle_of_bytes, star,
     star_of_bytes,
 };
-#[cfg(has_verdict)]
 pub use verdict::Verdict;
 
 /// geo's module of this name. geo's own example of reading a matrix, with `misonkandi` for `geo`:

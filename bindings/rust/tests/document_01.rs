@@ -103,7 +103,6 @@ fn p5_and_p6_a_bad_byte_reached_and_not() {
     assert_eq!(refusal.to_string(), "refused 11 at 2: bad byte");
 }
 
-#[cfg(has_verdict)]
 #[test]
 fn p7_and_p8_the_verdict_of_a_pattern() {
     use misonkandi::Verdict;
@@ -408,7 +407,6 @@ fn all_matrices() {
 }
 
 /// The three answers of the verdict, over what can still be reached: every matrix with no cell lower.
-#[cfg(has_verdict)]
 mod verdict {
     use super::*;
     use misonkandi::Verdict;
