@@ -12,7 +12,6 @@ use Rattle.de9im.specs.declared.predicates.Predicate.the-variants.{EqualTopo, C
 use Rattle.de9im.specs.declared.refusal.Refusal.the-variants.{BadByte, Ends, NoRoom}
 use Rattle.de9im.specs.Bytes.{bytes}
 use Rattle.star.specs.declared.label.Label.{Label}
-use Rattle.star.specs.declared.«topology_position».Sides.{Sides}
 use Rattle.star.specs.declared.«edge_end».EdgeEnd.{EdgeEnd}
 use Rattle.place.specs.declared.places.Corner.{Corner}
 use Rattle.place.specs.declared.places.Place.{Place}
