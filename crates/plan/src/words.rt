@@ -10,7 +10,7 @@ pub(crate) fn wide(x: u8) -> u64
     x as u64
 }
 
-pub(crate) fn half_of(a: u8, b: u8) -> usize
+pub fn half_of(a: u8, b: u8) -> usize
     ensures { λ r. ⌜ (r ≡ halfOf a b) × (r < 65536) ⌝ }
 {
     (wide(a) * 256 + wide(b)) as usize

@@ -3,11 +3,11 @@ use de9im::cells::Cells;
 use de9im::refusal::Refusal;
 use plan::Answer;
 use plan::record::record;
+use plan::words::half_of;
 ghost use mathlib.Core.Path.{_≡_};
 ghost use mathlib.Core.Bool.{true};
 ghost use Prim.Native.Nat.{_+_, _≤_, _<_};
 ghost use lib.ListN.{length};
-ghost use Rattle.plan.specs.Words.{halfOf};
 ghost use Rattle.stream.specs.Drain.{isPart, stopOf, Drains};
 
 // Why the records of a buffer stop.
@@ -25,18 +25,6 @@ pub struct Drained {
     pub cells: Cells,
 }
 
-fn wide(x: u8) -> usize
-    ensures { λ r. ⌜ (r ≡ x) × (r < 256) ⌝ }
-{
-    x as usize
-}
-
-fn half(a: u8, b: u8) -> usize
-    ensures { λ r. ⌜ (r ≡ halfOf a b) × (r < 65536) ⌝ }
-{
-    wide(a) * 256 + wide(b)
-}
-
 // Whether s is shorter than its first record.
 fn is_part(s: &[u8]) -> bool
     ensures { λ r. ⌜ (r ≡ isPart (now (s .entry))) × (r ≡ true → length (now (s .entry)) < 65537) ⌝ }
@@ -44,7 +32,7 @@ fn is_part(s: &[u8]) -> bool
     if s.len() < 2 {
         return true;
     }
-    s.len() < 2 + half(s[0], s[1])
+    s.len() < 2 + half_of(s[0], s[1])
 }
 
 fn stop_of(answer: Answer) -> Stop

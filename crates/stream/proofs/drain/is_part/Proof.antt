@@ -15,7 +15,7 @@ returns : tie.Need-returns
 returns c = (rw (lt-ltb _ _ (c .if1 .taken)), λ e. omega arith)
 
 returns-2 : tie.Need-returns-2
-returns-2 c = (rw (le-ltb _ _ (c .before .before .before .if1 .left), c .half .ensures .0), λ e. by _ _ e (c .half .ensures .1))
+returns-2 c = (rw (le-ltb _ _ (c .before .before .before .if1 .left), c .half-of .ensures .0), λ e. by _ _ e (c .half-of .ensures .1))
 
 pub is-part-spec : {M : Type 1} → statement M
 is-part-spec =
