@@ -12,8 +12,7 @@ use crate::rule;
 const SEED: u64 = 3;
 /// The longest text that a line has room for.
 const ROOM: usize = 12;
-/// How many matrices are drawn for a predicate, and how many of each answer are kept. So many are enough: an answer that
-/// a predicate has at all, it has on more than one matrix in a hundred of those drawn.
+/// How many matrices are drawn for a predicate, and how many of each answer are kept.
 const DRAWN: usize = 2000;
 const KEPT: usize = 8;
 /// How many matrices are drawn for a predicate and a cell, and how many pairs kept whose verdicts differ by that cell.
@@ -62,6 +61,8 @@ fn predicates(random: &mut Random) -> Vec<Call> {
                 calls.push(call);
             }
         }
+        let answers = kept.iter().filter(|count| **count == KEPT).count();
+        assert_eq!(answers, 2, "a predicate is open or has one verdict for good");
     }
     for which in 0..11 {
         for place in 0..9 {
