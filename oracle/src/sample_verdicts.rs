@@ -12,10 +12,12 @@ use crate::rule;
 const SEED: u64 = 3;
 /// The longest text that a line has room for.
 const ROOM: usize = 12;
-/// How many matrices are drawn for a predicate, and how many of each answer are kept. 2,000 are enough: an answer that
-/// a predicate has at all, it has on more than one matrix in a hundred of those drawn.
+/// How many matrices are drawn for a predicate, and how many of each answer are kept.
 const DRAWN: usize = 2000;
-const KEPT: usize = 16;
+const KEPT: usize = 8;
+/// How many matrices are drawn for a predicate and a cell, and how many pairs kept whose verdicts differ by that cell.
+const DRAWN_PAIRS: usize = 4000;
+const KEPT_PAIRS: usize = 4;
 
 pub const HEAD: &str = "\
 # Verdicts, from the crate's answers to every matrix that is at least as large in all cells; our library was not asked.
@@ -28,6 +30,7 @@ pub fn calls() -> Vec<Call> {
     let random = &mut Random::new(SEED);
     let mut calls = predicates(random);
     calls.extend(patterns(random));
+    calls.extend(letters(random));
     calls.extend(bad_patterns(random));
     calls
 }
@@ -45,7 +48,7 @@ fn cells(random: &mut Random) -> [u8; 9] {
     cells
 }
 
-/// Each answer of each predicate, some matrices each; then numbers without a predicate.
+/// Each answer of each predicate, some matrices each; each cell that decides; then numbers without a predicate.
 fn predicates(random: &mut Random) -> Vec<Call> {
     let mut calls = Vec::new();
     for which in 0..11 {
@@ -58,9 +61,32 @@ fn predicates(random: &mut Random) -> Vec<Call> {
                 calls.push(call);
             }
         }
+        let answers = kept.iter().filter(|count| **count == KEPT).count();
+        assert_eq!(answers, 2, "a predicate is open or has one verdict for good");
+    }
+    for which in 0..11 {
+        for place in 0..9 {
+            calls.extend(decided_by(random, which, place));
+        }
     }
     for which in [11, 12, 13, 16, 27, 128, 255] {
         calls.push(Call::verdict(cells(random), which));
+    }
+    calls
+}
+
+/// Pairs of matrices that differ in one cell, and in their verdicts.
+fn decided_by(random: &mut Random, which: u32, place: usize) -> Vec<Call> {
+    let mut calls = Vec::new();
+    for _ in 0..DRAWN_PAIRS {
+        let one = cells(random);
+        let mut other = one;
+        other[place] = random.below(4) as u8;
+        let pair = [one, other].map(|cells| Call::verdict(cells, which));
+        let [answer, others] = [&pair[0], &pair[1]].map(|call| rule::outcome(call).word);
+        if answer != others && calls.len() < 2 * KEPT_PAIRS {
+            calls.extend(pair);
+        }
     }
     calls
 }
@@ -79,7 +105,7 @@ fn patterns(random: &mut Random) -> Vec<Call> {
         call(start, b"FF*FF****"),
         call(inside, b"FF*FF****"),
     ];
-    for _ in 0..60 {
+    for _ in 0..30 {
         let given = cells(random);
         let mut read = rule::read(&given);
         calls.push(call(given, &read.map(|cell| settled(random, cell))));
@@ -91,6 +117,23 @@ fn patterns(random: &mut Random) -> Vec<Call> {
         pattern[place] = out_of_reach(random, read[place]);
         calls.push(call(read, &pattern));
         calls.push(call(given, &good_pattern(random)));
+    }
+    calls
+}
+
+/// Each letter on each dimension at each place; the other letters are settled, so that this one decides.
+fn letters(random: &mut Random) -> Vec<Call> {
+    let mut calls = Vec::new();
+    for place in 0..9 {
+        for letter in PATTERN_LETTERS {
+            for cell in 0..4 {
+                let mut given = random.cells();
+                given[place] = cell;
+                let mut pattern = given.map(|cell| settled(random, cell));
+                pattern[place] = letter;
+                calls.push(call(given, &pattern));
+            }
+        }
     }
     calls
 }
