@@ -112,6 +112,13 @@ pub fn completed(ends: &[EdgeEnd<f64>], graphs: &[GeometryGraph<'_, f64>; 2]) ->
     star.into_labeled(&graphs[0], &graphs[1])
 }
 
+/// A node on both boundaries and its star, completed and poured: as a record's node, but from ends that are read already.
+pub fn poured(matrix: &mut IntersectionMatrix, ends: &[EdgeEnd<f64>], graphs: &[GeometryGraph<'_, f64>; 2]) {
+    let star = completed(ends, graphs);
+    CoordNode::at(NODE, [CoordPos::OnBoundary; 2]).update_intersection_matrix(matrix);
+    star.update_intersection_matrix(matrix);
+}
+
 /// A geometry in whose area the node lies so, or one that is no area.
 pub fn graph(area_position: Option<CoordPos>) -> GeometryGraph<'static, f64> {
     GeometryGraph::with_area_position(area_position)

@@ -1,8 +1,8 @@
 //! The lines of stars and plan records.
 //!
 //! Records: from bytes to the poured matrix on both sides; the crate's side reads the same bytes, with the same checks,
-//! straight into the crate's own types. Stars: the completed labels; there the crate's side is given its ends already
-//! read, ours reads them from bytes.
+//! straight into the crate's own types. Nodes: a star built, completed and poured; stars: the completed labels. In both the
+//! crate's side is given its ends already read, ours reads them from bytes.
 
 use crate::asked;
 use crate::asked_star::{self, code_position, completed, graph, ready_ends};
@@ -85,6 +85,7 @@ pub(crate) fn measure_all(random: &mut Random) {
         for count in SIZES {
             let nodes: Vec<_> = (0..INPUTS).map(|_| node(random, count, square)).collect();
             measure_records(&format!("record of {count} ends, {walls}"), &nodes);
+            measure_nodes(&format!("node of {count} ends, {walls}"), &nodes);
             measure_stars(&format!("star of {count} ends, {walls}"), &nodes);
         }
     }
@@ -109,6 +110,27 @@ fn measure_records(name: &str, nodes: &[Node]) {
             let (used, cells) = rule_plan::record(&START, &node.record).expect("it is good");
             (used, cells)
         },
+    );
+}
+
+/// A star built, completed and poured. The crate's side has its ends in its own types before the clock starts; ours has
+/// no call for that and reads the whole record, so its time holds the reading too.
+fn measure_nodes(name: &str, nodes: &[Node]) {
+    measure(
+        name,
+        Ours::asked_for(PlanOp::Record.is_in_library()),
+        nodes,
+        |node| {
+            let mut matrix = node.matrix.clone();
+            asked_star::poured(&mut matrix, &node.ends, &node.graphs);
+            matrix
+        },
+        |node| {
+            let mut cells = START;
+            linked::record(&mut cells, &node.record);
+            cells
+        },
+        |node| rule_plan::record(&START, &node.record).expect("it is good").1,
     );
 }
 

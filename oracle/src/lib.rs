@@ -24,6 +24,7 @@ include!(concat!(env!("OUT_DIR"), "/geo_modules.rs"));
 pub mod bench;
 pub mod compare;
 pub mod jts_cases;
+pub mod program;
 pub mod sample;
 
 mod asked;
@@ -33,6 +34,7 @@ mod bench_plans;
 mod ours;
 mod pieces;
 mod plan_pieces;
+mod program_bench;
 mod random;
 mod rule;
 mod rule_plan;

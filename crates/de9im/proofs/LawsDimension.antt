@@ -1,5 +1,5 @@
 -- Laws of dimensions and their numbers. Assumes nothing.
-use Prim.Native.Nat.{ℕ, zero, suc, _≤_, _<_, min, max}
+use Prim.Native.Nat.{ℕ, zero, suc, _≤_, min, max}
 use mathlib.Core.Path.{_≡_, refl}
 use native.Mathlib.Omega.{arith}
 use Rattle.de9im.specs.declared.dimensions.Dimensions.{Dimensions}

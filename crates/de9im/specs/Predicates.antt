@@ -1,10 +1,10 @@
 -- Document 01's table of predicates: its patterns as they stand there, its alternatives, and the two rules with a and b.
 use Prim.Native.Nat.{ℕ, max}
 use Prim.Native.String.{String}
-use mathlib.Core.Bool.{Bool, true, false, not, _&&_, _||_}
+use mathlib.Core.Bool.{Bool, not, _&&_, _||_}
 use lib.Dec.{eqb, ltb}
 use Rattle.de9im.specs.declared.dimensions.Dimensions.{Dimensions}
-use Rattle.de9im.specs.declared.dimensions.Dimensions.the-variants.{Empty, ZeroDimensional, OneDimensional, TwoDimensional}
+use Rattle.de9im.specs.declared.dimensions.Dimensions.the-variants.{ZeroDimensional, OneDimensional, TwoDimensional}
 use Rattle.de9im.specs.declared.«coordinate_position».CoordPos.{CoordPos}
 use Rattle.de9im.specs.declared.«coordinate_position».CoordPos.the-variants.{Inside as I, OnBoundary as B, Outside as E}
 use Rattle.de9im.specs.declared.predicates.Predicate.{Predicate}

@@ -4,8 +4,6 @@ use Prim.Native.Nat.{ℕ, zero, suc}
 use mathlib.Core.List.{List}
 use lib.Ieee.{Float}
 use Rattle.place.specs.declared.places.Corner.{Corner}
-use Rattle.place.specs.declared.places.Rect.{Rect}
-use Rattle.place.specs.declared.places.Place.{Place}
 use Rattle.place.specs.declared.places.Place.the-variants as P
 use Rattle.place.specs.declared.relate.PlaceAnswer.{PlaceAnswer}
 use Rattle.place.specs.declared.relate.Related.{Related}

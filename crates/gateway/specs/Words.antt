@@ -28,7 +28,6 @@ use Rattle.de9im.specs.declared.refusal.Spot.{Spot}
 use Rattle.de9im.specs.declared.refusal.Spot.the-variants as S
 use Rattle.de9im.specs.declared.text.Parsed.{Parsed}
 use Rattle.de9im.specs.declared.text.Parsed.the-variants as P
-use Rattle.de9im.specs.declared.text.TextAnswer.{TextAnswer}
 use Rattle.de9im.specs.Cells.{cellsOf, matrixOf}
 use Rattle.de9im.specs.Matrix.{Matrix}
 use Rattle.de9im.specs.Predicates.{holds}

@@ -3,17 +3,15 @@
 use Prim.Native.Nat.{ℕ, zero, suc, _+_, _*_, _≤_, _<_}
 use mathlib.Core.Path.{_≡_, refl, sym, ap, _∙_}
 use mathlib.Core.Bool.{Bool, true, false, cond, not}
-use mathlib.Core.List.{List, [], _∷_, _++_}
+use mathlib.Core.List.{List, _++_}
 use native.Mathlib.Omega.{arith}
 use borrow.Author.Tests.{ltb-true, ltb-false, eqb-true, eqb-false, not-false}
 use lib.Dec.{eqb, ltb}
-use lib.ListN.{length, getD, length-append, List·getD-append}
+use lib.ListN.{length, length-append, List·getD-append}
 use Rattle.de9im.specs.declared.refusal.Refusal.{Refusal}
 use Rattle.de9im.specs.declared.refusal.Refusal.the-variants.{Short, Version, Kind, Length, Ends, PositionCode, MissingLeft}
-use Rattle.de9im.specs.Matrix.{Matrix}
-use Rattle.star.specs.Completing.{missingLeft, completedOf}
+use Rattle.star.specs.Completing.{missingLeft}
 use Rattle.star.specs.Star.{joinedOf}
-use Rattle.plan.specs.declared.Answer.{Answer}
 use Rattle.plan.specs.declared.Answer.the-variants.{Used, Refused}
 use Rattle.plan.specs.declared.«label_bytes».LabelRead.{LabelRead}
 use Rattle.plan.specs.declared.«label_bytes».LabelRead.the-variants as L
@@ -24,21 +22,9 @@ use Rattle.plan.specs.declared.record.RecordAnswer.{RecordAnswer}
 use Rattle.plan.specs.EndBytes.{dirAt, endAt, readEnds, good, bad}
 use Rattle.plan.specs.EndBytes.{Ends as ReadEnds}
 use Rattle.plan.specs.LabelBytes.{sidesAt, labelAt}
-use Rattle.plan.specs.Record.{unless, refusedAs, acceptedAs, edgeWith, edgeOf, nodeAt, withEnds, withNode, nodeOf, byKind, recordOf}
+use Rattle.plan.specs.Record.{unless, refusedAs, edgeWith, edgeOf, nodeAt, withEnds, withNode, nodeOf, byKind, recordOf}
 use Rattle.plan.specs.Words.{byteAt, halfAt}
-use Rattle.plan.proofs.LawsRecordOrder.{
-  node-short,
-  node-many,
-  node-length,
-  node-body,
-  no-field,
-  no-body,
-  too-short,
-  other-version,
-  a-node,
-  an-edge,
-  other-kind,
-}
+use Rattle.plan.proofs.LawsRecordOrder.{node-short, node-many, node-length, node-body, too-short, other-version, a-node, an-edge, other-kind}
 
 -- two byte strings that begin alike
 abbrev pub Alike : ℕ → List ℕ → List ℕ → Type 0
@@ -124,7 +110,8 @@ module _ (n : ℕ) (s t : List ℕ) (same : Alike n s t) where
         → recordOf ns s ≡ recordOf ns t
     record-alike l m u v = by (ltb (halfAt s 0) 2) refl
       where
-        kind : (b d : Bool) → 2 ≤ halfAt s 0 → byteAt s 2 ≡ 1 → eqb (byteAt s 3) 1 ≡ b → eqb (byteAt s 3) 2 ≡ d → recordOf ns s ≡ recordOf ns t
+        kind : (b d : Bool) → 2 ≤ halfAt s 0 → byteAt s 2 ≡ 1 → eqb (byteAt s 3) 1 ≡ b → eqb (byteAt s 3) 2 ≡ d
+            → recordOf ns s ≡ recordOf ns t
         kind true d h one e f =
             let x : byteAt s 2 ≡ byteAt t 2 = same 2 (omega arith) in
             let y : byteAt s 3 ≡ byteAt t 3 = same 3 (omega arith) in

@@ -2,7 +2,7 @@
 use Prim.Native.Nat.{ℕ, _+_, _*_, _≤_, _<_, min}
 use mathlib.Core.Path.{_≡_, refl, sym, ap, subst, _∙_}
 use mathlib.Core.Bool.{Bool, true, false, cond, not}
-use mathlib.Core.List.{List, [], _∷_}
+use mathlib.Core.List.{List, _∷_}
 use native.Mathlib.Omega.{arith}
 use lib.Dec.{eqb, ltb}
 use lib.ListN.{length, getD}
@@ -10,7 +10,7 @@ use Rattle.de9im.specs.declared.refusal.Refusal.{Refusal}
 use Rattle.de9im.specs.declared.refusal.Refusal.the-variants.{Short, Version, Kind, Length, Ends, PositionCode, MissingLeft}
 use Rattle.de9im.specs.Cells.{cellsOf, matrixOf}
 use Rattle.de9im.specs.Dimension.{dimNo}
-use Rattle.de9im.specs.Matrix.{Matrix, Shaped, cellAt}
+use Rattle.de9im.specs.Matrix.{Matrix, cellAt}
 use Rattle.de9im.specs.declared.dimensions.Dimensions.the-variants.{ZeroDimensional}
 use Rattle.de9im.proofs.LawsForms.{cells-back, matrix-shaped, nine-at}
 use Rattle.de9im.proofs.LawsPatterns.{cells-at}
@@ -63,7 +63,8 @@ label-rises ns l i j h k =
       label-cell l (matrixOf ns) (matrix-shaped ns) i j h k,
     )
 
-node-rises : (ns : List ℕ) (n : Node) (ls : List Label) → Rises ns (cellsOf (pourLabels (pourNode (matrixOf ns) (n .«on_a») (n .«on_b»)) ls))
+node-rises : (ns : List ℕ) (n : Node) (ls : List Label)
+    → Rises ns (cellsOf (pourLabels (pourNode (matrixOf ns) (n .«on_a») (n .«on_b»)) ls))
 unfolding pourNode
 node-rises ns n ls i j h k =
     let m = pourNode (matrixOf ns) (n .«on_a») (n .«on_b») in
@@ -86,7 +87,8 @@ not-accepted r ns ms u e =
     absurd (let z : _≡_ {A = ℕ} 0 1 = cc in omega arith)
 
 -- it passed a check
-passed : (t : Bool) (r : Refusal) (ns : List ℕ) (rest : RecordAnswer) (u : ℕ) (ms : List ℕ) → unless t r ns rest ≡ usedAs u ms → rest ≡ usedAs u ms
+passed : (t : Bool) (r : Refusal) (ns : List ℕ) (rest : RecordAnswer) (u : ℕ) (ms : List ℕ) → unless t r ns rest ≡ usedAs u ms
+    → rest ≡ usedAs u ms
 passed true r ns rest u ms e = not-accepted r ns ms u e
 passed false r ns rest u ms e = e
 

@@ -9,7 +9,6 @@ use lib.Dec.{ltb, eqb}
 use lib.ListN.{length}
 use Rattle.de9im.specs.declared.«coordinate_position».Coded.{Coded}
 use Rattle.de9im.specs.declared.«coordinate_position».Coded.the-variants as C
-use Rattle.de9im.specs.declared.«coordinate_position».Position.{Position}
 use Rattle.de9im.specs.declared.refusal.Refusal.{Refusal}
 use Rattle.de9im.specs.declared.refusal.Refusal.the-variants.{Short, Version, Kind, Length, Ends, PositionCode, MissingLeft}
 use Rattle.de9im.specs.Cells.{cellsOf, matrixOf}

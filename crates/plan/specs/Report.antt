@@ -3,7 +3,7 @@
 -- used; later bytes don't matter." "Report: 1, 4, 2, 11", and 12: "offset beyond the buffer, or fewer than 12 bytes from it".
 use Prim.Native.Nat.{ℕ, _+_}
 use mathlib.Core.Bool.{Bool, cond}
-use mathlib.Core.List.{List, [], _∷_, _++_}
+use mathlib.Core.List.{List, _∷_, _++_}
 use lib.Dec.{ltb, leb, eqb}
 use lib.ListN.{length, take, drop}
 use Rattle.de9im.specs.declared.refusal.Refusal.{Refusal}

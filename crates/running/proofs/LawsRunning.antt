@@ -24,7 +24,7 @@ use Rattle.star.proofs.LawsPouring.{raise-shape, label-shape}
 use Rattle.plan.specs.declared.Answer.the-variants.{Refused}
 use Rattle.plan.specs.declared.«label_bytes».LabelRead.{LabelRead}
 use Rattle.plan.specs.declared.«label_bytes».LabelRead.the-variants as L
-use Rattle.plan.specs.declared.record.Node.{Node}
+use Rattle.star.specs.declared.pouring.Node.{Node}
 use Rattle.plan.specs.declared.record.NodeRead.{NodeRead}
 use Rattle.plan.specs.declared.record.NodeRead.the-variants as N
 use Rattle.plan.specs.declared.record.RecordAnswer.{RecordAnswer}
@@ -56,7 +56,7 @@ hands-edge ns (L.Bad r) = λ s e. refl
 hands-ends : (ns : List ℕ) (u : ℕ) (n : Node) (es : ReadEnds) → Hands ns (withEnds ns u n es)
 hands-ends ns u n (bad r) = λ s e. refl
 hands-ends ns u n (good es) =
-    let m = pourLabels (pourNode (matrixOf ns) (n .a) (n .b)) (completedOf (n .p) (n .q) (joinedOf es)) in
+    let m = pourLabels (pourNode (matrixOf ns) (n .«on_a») (n .«on_b»)) (completedOf (n .«area_a») (n .«area_b») (joinedOf es)) in
     hands-unless (missingLeft (joinedOf es)) MissingLeft ns (acceptedAs u m) (hands-accepted ns u m)
 
 hands-node : (ns s : List ℕ) (n : NodeRead) → Hands ns (withNode ns s n)

@@ -128,7 +128,8 @@ fill-walk ra rb c d (l ∷ ls) ta tb =
     rw (
       half-now A ra (c .a) (d .a) l ls ta,
       half-now B rb (c .b) (d .b) l ls tb,
-      fill-walk ra rb (nextLabel c l) (completeCurrent d l) ls (half-next A ra (c .a) (d .a) l ls ta) (half-next B rb (c .b) (d .b) l ls tb),
+      fill-walk ra rb (nextLabel c l) (completeCurrent d l) ls (half-next A ra (c .a) (d .a) l ls ta) (half-next B rb (c .b)
+          (d .b) l ls tb),
     ) refl
 
 abbrev currentOf : Geometry → Current → Position

@@ -50,7 +50,8 @@ holds-given : (ns : List ℕ) → Holds (gridOf ns) (matrixOf ns)
 holds-given ns =
     record {
       long = refl;
-      cell = λ i j h k. sym (nine-in (gridOf ns) i j h k) ∙ ap (λ l. getD l (3 * i + j) 0) (sym (cells-back ns)) ∙ cells-at (matrixOf ns) i j h k;
+      cell = λ i j h k. sym (nine-in (gridOf ns) i j h k) ∙ ap (λ l. getD l (3 * i + j) 0) (sym (cells-back ns)) ∙
+          cells-at (matrixOf ns) i j h k;
     }
 
 read-back : (g : List ℕ) (m : Matrix) → Holds g m → cellsIn g ≡ cellsOf m
@@ -121,8 +122,15 @@ module _ (g : List ℕ) (m : Matrix) (a b : Position) (d : Dimensions) (t : Hold
       record {
         long = length-set g (gridAt a b) (max (getD g (gridAt a b) 0) (dimNo d)) ∙ t .long;
         cell = λ i j h k.
-            raised-at g (gridAt a b) (5 + (4 * i + j)) (dimNo d) (eqb (gridAt a b) (5 + (4 * i + j))) (omega (arith, t .long, grid-few a b)) refl ∙
-            rw (t .cell i j h k, ← into-place a b i j h k d (eqb (gridAt a b) (5 + (4 * i + j))) (eqb (rowOf a) i) (eqb (rowOf b) j) refl refl refl)
+            raised-at g (gridAt a b) (5 + (4 * i + j)) (dimNo d) (eqb (gridAt a b) (5 + (4 * i + j))) (omega (
+              arith,
+              t .long,
+              grid-few a b,
+            )) refl ∙
+            rw (
+              t .cell i j h k,
+              ← into-place a b i j h k d (eqb (gridAt a b) (5 + (4 * i + j))) (eqb (rowOf a) i) (eqb (rowOf b) j) refl refl refl,
+            )
             (sym (raise-cell m a b d s i j h k));
       }
 

@@ -27,7 +27,7 @@ use Rattle.de9im.specs.Bytes.{bytes}
 use Rattle.de9im.specs.Matrix.{Matrix}
 use Rattle.de9im.specs.Names.{nameOf}
 use Rattle.de9im.specs.Predicates.{holds}
-use Rattle.io.specs.Digits.{Fewest}
+use Rattle.io.specs.Digits.{Fewest, digits}
 use Rattle.de9im.specs.declared.refusal.Refusal.{Refusal}
 use Rattle.de9im.specs.Refused.{numberOf}
 use Rattle.stream.specs.declared.Told.{Told}
@@ -128,3 +128,37 @@ prints-refused o line r off e f = subst (λ (t : Told). Prints (record { told = 
 pub prints-unreadable : (o : Outcome) (line : List ℕ) → o .told ≡ T.Unreadable → line ≡ bytes "unreadable\n" → Prints o line
 prints-unreadable o line e f =
     rw f (subst (λ (t : Told). Prints (record { told = t; cells = o .cells }) (bytes "unreadable\n")) (sym e) unreadable)
+
+-- what is printed is settled: a number has one decimal text, so an outcome has one print
+no-fewer : (n j k : ℕ) → Fewest 10 1 n j → Fewest 10 1 n k → j ≤ k
+no-fewer n j k f g = by (leb j k) refl
+  where
+    by : (t : Bool) → leb j k ≡ t → j ≤ k
+    by true e = leb-true j k e
+    by false e =
+        let h : k < j = leb-false j k e in
+        let a : 1 ≤ k = g .0 in
+        let p : 10 ^ k ≤ 10 ^ (j - 1) = pow-le-pow-right (let z : 0 < 10 = omega arith in z) (let y : k ≤ j - 1 = omega arith in y) in
+        let q : 10 ^ (j - 1) ≤ n = f .2 (omega arith) in
+        let r : n < 10 ^ k = g .1 in
+        absurd (omega arith)
+
+one-decimal : (n : ℕ) (before a b : List ℕ) → Decimal n before a → Decimal n before b → a ≡ b
+one-decimal n before a b x y =
+    let h = no-fewer n (x .places) (y .places) (x .fewest) (y .fewest) in
+    let k = no-fewer n (y .places) (x .places) (y .fewest) (x .fewest) in
+    let e : x .places ≡ y .places = omega arith in
+    x .is ∙ ap (λ (p : ℕ). before ++ digits 10 p n) e ∙ sym (y .is)
+
+one-refused-line : (r : Refusal) (off : ℕ) (a b : List ℕ) → RefusedLine r off a → RefusedLine r off b → a ≡ b
+one-refused-line r off a b x y =
+    let e = one-decimal (numberOf r) (bytes "refused ") (x .named) (y .named) (x .number) (y .number) in
+    let f =
+    one-decimal off (y .named ++ bytes " at ") (x .placed) (y .placed)
+    (subst (λ (l : List ℕ). Decimal off (l ++ bytes " at ") (x .placed)) e (x .offset)) (y .offset) in
+    x .is ∙ ap (λ (l : List ℕ). l ++ bytes "\n") f ∙ sym (y .is)
+
+pub one-print : {o : Outcome} {a b : List ℕ} → Prints o a → Prints o b → a ≡ b
+one-print answers answers = refl
+one-print {a = a} {b = b} (refused {r = r} {off = off} x) (refused y) = one-refused-line r off a b x y
+one-print unreadable unreadable = refl

@@ -81,8 +81,9 @@ pub laid : (xs word ys : List ℕ) (at : ℕ) → at + length word ≤ length xs
 laid xs word ys at h e =
     let l : length (drop at xs) ≤ length xs - at = omega (arith, length-drop at xs) in
     let n : length (take at xs) ≡ at = length-take-le at xs (omega arith) in
+    let w = take-all (length xs - at) (drop at xs) l in
     let p : putMid at (length xs - at) xs ys ≡ take at xs ++ (word ++ (drop (length word) (drop at xs))) =
-    rw (post-is at (length xs) xs (omega arith), drop-length xs, e, take-length word, append-nil, take-all (length xs - at) (drop at xs) l) in
+    rw (post-is at (length xs) xs (omega arith), drop-length xs, e, take-length word, append-nil, w) in
     rw p (
     let a : at + length word ≡ length (take at xs ++ word) = omega (arith, length-append (take at xs) word) in
     rw (← append-assoc (take at xs) word (drop (length word) (drop at xs)), a) (take-append-seam (take at xs ++ word) _)

@@ -7,6 +7,7 @@ use native.Mathlib.Omega.{arith}
 use borrow.Author.Tests.{eqb-true, eqb-false}
 use lib.Dec.{eqb}
 use lib.ListN.{length, take, drop}
+use lib.IntN.{ℤ, pos, negsuc}
 use Rattle.de9im.specs.declared.refusal.Refusal.the-variants.{Short}
 use Rattle.stream.specs.declared.Told.{Told}
 use Rattle.stream.specs.declared.Told.the-variants as T
@@ -14,13 +15,16 @@ use Rattle.stream.specs.declared.Outcome.{Outcome}
 use Rattle.stream.specs.declared.drain.Drained.{Drained}
 use Rattle.stream.specs.declared.drain.Stop.{Stop}
 use Rattle.stream.specs.declared.drain.Stop.the-variants as S
+use Rattle.stream.specs.declared.reading.Got.{Got}
+use Rattle.stream.specs.declared.reading.Got.the-variants as G
 use Rattle.stream.specs.declared.reading.Next.{Next}
 use Rattle.stream.specs.declared.reading.Next.the-variants as N
 use Rattle.stream.specs.declared.reading.Round.{Round}
 use Rattle.stream.specs.Drain.{isPart, Drains}
 use Rattle.stream.specs.Input.{startCells, Answers, Settled}
 use Rattle.stream.specs.Input.Settled.{at-end, at-refusal, unreadable}
-use Rattle.stream.specs.Reading.{nextOf, toldAs, endedAs, restOf, Standing, Ready, Taken, Goes, Tells, After, Turned, Read}
+use Rattle.stream.specs.Reading.{nextOf, toldAs, endedAs, gotOf, restOf, Fits, Follows}
+use Rattle.stream.specs.Reading.{Standing, Ready, Taken, Goes, Tells, After, Turned, Read}
 use Rattle.stream.proofs.LawsLists.{longer, same-part, used-part, part-length}
 use Rattle.stream.proofs.LawsDrain.{drained-left}
 use Rattle.stream.proofs.LawsInput.{drained-part, drained-refused, settles-all, settles-short, settled-before}
@@ -103,6 +107,31 @@ module _ (b : List ℕ) (t : Round) (b1 : List ℕ) (u : Round) (standing : Stan
         by : (x : Stop) → taken .drained .stop ≡ x → After b t b2 r (nextOf x (u .off + taken .drained .used))
         by S.Part e = goes e
         by (S.Refused x) e = tells x e
+
+-- a read that was asked for no more than the room
+fits-got : (z : ℤ) (n have room : ℕ) → have + n ≤ room → Fits have room (gotOf z n)
+fits-got (negsuc k) n have room h = tt
+fits-got (pos k) n have room h = by (eqb n 0) refl
+  where
+    by : (t : Bool) → eqb n 0 ≡ t → Fits have room (cond t G.End (G.Bytes n))
+    by true e = tt
+    by false e = let q : n ≡ 0 → ⊥ = eqb-false n 0 e in (omega arith, h)
+
+pub got-fits : (g : Got) (z : ℤ) (n have room : ℕ) → g ≡ gotOf z n → have + n ≤ room → Fits have room g
+got-fits g z n have room e h = rw e (fits-got z n have room h)
+
+pub fits-same : (have a b : ℕ) (g : Got) → a ≡ b → Fits have a g → Fits have b g
+fits-same have a b g e f = subst (λ (n : ℕ). Fits have n g) e f
+
+-- whatever a read brought
+pub turned-follows : (b : List ℕ) (t : Round) (b1 : List ℕ) (u : Round) → Standing b t → Ready b t b1 u
+    → (b2 : List ℕ) (got : Got) (r : Round) → take (u .have) b2 ≡ take (u .have) b1 → Fits (u .have) 131072 got
+    → length b2 ≡ 131072 → u .off ≤ 9223372036854775808
+    → Follows b2 u got r → Turned b t b2 r
+turned-follows b t b1 u standing ready b2 (G.Bytes n) r same fits room near f =
+    turned-taken b t b1 u standing ready b2 n r same (fits .0) (fits .1) room near f
+turned-follows b t b1 u standing ready b2 G.End r same fits room near f = turned-ended b t b1 u standing ready b2 r f
+turned-follows b t b1 u standing ready b2 G.Failed r same fits room near f = turned-unreadable b t b2 u r f
 
 -- since the start: the answer to what was read and what is still to come is the answer to the rest and what is still to come
 pub record Since (buf : List ℕ) (t : Round) : Type 0 where

@@ -89,6 +89,7 @@ as-run {ns = ns} {s = s} {off = off} {o = o} (accepts {u = u} e h) =
       rest = q .rest;
       run = then (accepted-cut ns s u e) (q .run);
       cut =
-          sym (take-append-drop u s) ∙ ap (λ (l : List ℕ). take u s ++ l) (q .cut) ∙ sym (append-assoc (take u s) (glued (q .records)) (q .rest));
+          sym (take-append-drop u s) ∙ ap (λ (l : List ℕ). take u s ++ l) (q .cut) ∙
+          sym (append-assoc (take u s) (glued (q .records)) (q .rest));
       last = subst (λ (k : ℕ). Last (q .after) k (q .rest) o) n (q .last);
     }

@@ -8,6 +8,7 @@ use mathlib.Core.Bool.{true, cond}
 use mathlib.Core.List.{List, _++_}
 use lib.Dec.{eqb}
 use lib.ListN.{length, take, drop}
+use lib.IntN.{ℤ, pos, negsuc}
 use Rattle.de9im.specs.declared.refusal.Refusal.the-variants.{Short}
 use Rattle.stream.specs.declared.Told.{Told}
 use Rattle.stream.specs.declared.Told.the-variants as T
@@ -38,6 +39,11 @@ endedAs t = toldAs t (cond (eqb (t .at) (t .have)) T.Accepted (T.Refused Short (
 -- the bytes that were read and not used yet
 abbrev pub restOf : List ℕ → Round → List ℕ
 restOf buf t = take (t .have - t .at) (drop (t .at) buf)
+
+-- what read answered, a negative number or a count, and n, that count within the room
+abbrev pub gotOf : ℤ → ℕ → Got
+gotOf (negsuc k) n = G.Failed
+gotOf (pos k) n = cond (eqb n 0) G.End (G.Bytes n)
 
 -- a read brings at least one byte, and no more than there is room for
 abbrev pub Fits : ℕ → ℕ → Got → Type 0
@@ -75,6 +81,12 @@ pub record Taken (buf : List ℕ) (t : Round) (n : ℕ) (r : Round) : Type 0 whe
   pub off : r .off ≡ t .off + drained .used
   pub next : r .next ≡ nextOf (drained .stop) (t .off + drained .used)
   pub cells : r .cells ≡ drained .cells
+
+-- what follows from a read: only the end of the input is told as one
+abbrev pub Follows : List ℕ → Round → Got → Round → Type 0
+Follows buf t (G.Bytes n) r = Taken buf t n r
+Follows buf t G.End r = r ≡ endedAs t
+Follows buf t G.Failed r = r ≡ toldAs t T.Unreadable
 
 -- after a turn that goes on: new bytes came, and the answer to the rest is the answer to what was there with the new bytes
 pub record Goes (before : List ℕ) (t : Round) (after : List ℕ) (r : Round) : Type 0 where

@@ -9,7 +9,7 @@ use libc::STDIN_FILENO;
 ghost use mathlib.Core.Path.{_≡_};
 ghost use Prim.Native.Nat.{_+_, _-_, _≤_, _<_};
 ghost use lib.ListN.{length, take, drop};
-ghost use Rattle.stream.specs.Reading.{nextOf, endedAs, toldAs, restOf, Fits, Ready, Standing, Taken, Turned, Read};
+ghost use Rattle.stream.specs.Reading.{nextOf, endedAs, toldAs, restOf, gotOf, Fits, Ready, Standing, Taken, Follows, Turned, Read};
 
 // What is to be done next: read on, or tell.
 pub enum Next {
@@ -101,6 +101,19 @@ fn with_room(buf: &mut [u8], t: Round) -> Round
     }
 }
 
+// A negative answer is a failed read; an answer of no bytes is the end of the input.
+fn got_of(got: isize, n: usize) -> Got
+    ensures { λ r. ⌜ r ≡ gotOf got n ⌝ }
+{
+    if got < 0 {
+        return Got::Failed;
+    }
+    if n == 0 {
+        return Got::End;
+    }
+    Got::Bytes(n)
+}
+
 // One read, behind the bytes that are there.
 fn fill(buf: &mut [u8], have: usize) -> Got
     requires { ⌜ have < length (now buf) ⌝ }
@@ -108,14 +121,8 @@ fn fill(buf: &mut [u8], have: usize) -> Got
     ensures { λ _. ⌜ take have (now (buf .exit)) ≡ take have (now (buf .entry)) ⌝ }
 {
     let got = libc::read(STDIN_FILENO, &mut buf[have..]);
-    if got < 0 {
-        return Got::Failed;
-    }
     let n = io::count(got, &buf[have..]);
-    if n == 0 {
-        return Got::End;
-    }
-    Got::Bytes(n)
+    got_of(got, n)
 }
 
 // n more bytes have come: every record that is whole by then.
@@ -140,6 +147,19 @@ fn taken(buf: &[u8], t: Round, n: usize) -> Round
     }
 }
 
+// What follows from one read: the bytes are drained, the end is told, and a failed read is never taken for the end.
+fn after(buf: &[u8], t: Round, got: Got) -> Round
+    requires { ⌜ (t .at ≤ t .have) × Fits (t .have) (length (now buf)) got ⌝ }
+    requires { ⌜ (length (now buf) ≡ 131072) × (t .off ≤ 9223372036854775808) ⌝ }
+    ensures { λ r. ⌜ Follows (now (buf .entry)) t got r ⌝ }
+{
+    match got {
+        Got::Bytes(n) => taken(buf, t, n),
+        Got::End => ended(t),
+        Got::Failed => tell(t, Told::Unreadable),
+    }
+}
+
 // One read, and every record that is whole by then.
 fn turn(buf: &mut [u8], t: Round) -> Round
     requires { ⌜ Standing (now buf) t ⌝ }
@@ -151,11 +171,7 @@ fn turn(buf: &mut [u8], t: Round) -> Round
     let u = with_room(buf, t);
     let have = u.have;
     let got = fill(buf, have);
-    match got {
-        Got::Bytes(n) => taken(buf, u, n),
-        Got::End => ended(u),
-        Got::Failed => tell(u, Told::Unreadable),
-    }
+    after(buf, u, got)
 }
 
 // Turn after turn, until the input ends, a record is refused or a read fails.

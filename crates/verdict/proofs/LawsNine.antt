@@ -121,7 +121,8 @@ module _ (ns : List ℕ) where
       only-node (getD ms (3 * i + j) 0) (readIn ns i j) (x i j) (labelsInto ls i j)
       (cells-at (pourLabels m ls) i j h k ∙
       labels-cell m ls (raise-shape (matrixOf ns) (n .«on_a») (n .«on_b») ZeroDimensional (matrix-shaped ns)) i j h k ∙
-      ap (λ (y : ℕ). max y (labelsInto ls i j)) (raise-cell (matrixOf ns) (n .«on_a») (n .«on_b») ZeroDimensional (matrix-shaped ns) i j h k) ∙
+      ap (λ (y : ℕ). max y (labelsInto ls i j)) (raise-cell (matrixOf ns) (n .«on_a») (n .«on_b») ZeroDimensional
+      (matrix-shaped ns) i j h k) ∙
       ap (λ (y : ℕ). max (max y (x i j)) (labelsInto ls i j)) (given-cell ns i j h k))
       (small i j h k) (labels-none ls i j)) in
       one (sum (readIn ms)) (sum (readIn ns)) (sum x) t (node-one (n .«on_a») (n .«on_b»))

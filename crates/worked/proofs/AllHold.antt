@@ -1,11 +1,14 @@
--- Document 01's worked examples hold: one statement over one list, and one over its edges. Each entry by computing the definition that it is an
--- instance of, so a changed definition breaks it. Assumes nothing.
+-- Document 01's worked examples hold: one statement over one list, and one over its edges. Each entry by computing the definition that it
+-- is an instance of, so a changed definition breaks it. Assumes nothing.
 use mathlib.Core.Path.{refl}
+use mathlib.Core.Bool.{true, false}
 use lib.Ieee.{lt, eq, ofInt}
+use Rattle.de9im.specs.declared.refusal.Refusal.the-variants.{BadByte}
+use Rattle.de9im.specs.Bytes.{bytes}
 use Rattle.de9im.specs.Letters.{letterOf}
 use Rattle.de9im.specs.Patterns.{walk, matchesOf, agreeAll}
 use Rattle.de9im.specs.Predicates.{holds}
-use Rattle.de9im.specs.Text.{cellLetterOf}
+use Rattle.de9im.specs.Text.{cellLetterOf, firstBad}
 use Rattle.star.specs.Bundle.{count, onJoined, sideJoined, halfJoined, joinOf}
 use Rattle.star.specs.Calls.{bundledOf}
 use Rattle.star.specs.Completing.{startOf, walkFrom, walkOf, any, missingLeft, filledOf}
@@ -15,23 +18,43 @@ use Rattle.star.specs.Pouring.{pourNode, pourLabel, pourLabels}
 use Rattle.star.specs.Star.{insertDir, dirsFrom, keep}
 use Rattle.plan.specs.EndBytes.{dirAt, endAt, readEnds}
 use Rattle.plan.specs.LabelBytes.{sidesAt, labelAt}
-use Rattle.plan.specs.Record.{edgeOf, nodeOf, recordOf}
+use Rattle.plan.specs.Record.{nodeOf, recordOf}
 use Rattle.plan.specs.Report.{reportBytes, wroteOf, writtenOf}
 use Rattle.place.specs.Places.{finite, isPlace}
 use Rattle.place.specs.Relate.{relateOf}
 use Rattle.place.specs.Rules.{boxBox, related}
-use Rattle.worked.specs.Example.{Every}
+use Rattle.verdict.specs.Judges.{Judges, bad-byte}
+use Rattle.verdict.specs.Table.{every}
+use Rattle.verdict.specs.declared.Verdict.the-variants.{Open, NoForGood}
+use Rattle.verdict.specs.declared.pattern.Judged.the-variants as J
+use Rattle.verdict.proofs.LawsLoop.{given}
+use Rattle.worked.specs.Example.{Every, none, _and_, cells}
 use Rattle.worked.specs.Examples.{p1-to-p14, edges}
+
+-- the verdict's two: a bad byte; and by what the letters can still come to
+p7 : Judges (J.Refused (BadByte 2)) (bytes "T*X******") (cells "FFFFFFFF2")
+unfolding firstBad letterOf
+p7 = bad-byte refl refl
+
+p8-open : Judges (J.Is Open) (bytes "FF*FF****") (cells "FFFFFFFF2")
+unfolding firstBad letterOf every cellLetterOf
+p8-open = given (bytes "FF*FF****") (cells "FFFFFFFF2") true false refl refl refl refl
+
+p8-no : Judges (J.Is NoForGood) (bytes "FF*FF****") (cells "0FFFFFFF2")
+unfolding firstBad letterOf every cellLetterOf
+p8-no = given (bytes "FF*FF****") (cells "0FFFFFFF2") false false refl refl refl refl
 
 pub all-hold : Every p1-to-p14
 unfolding recordOf nodeOf readEnds endAt dirAt labelAt sidesAt cellLetterOf
     orderOf count onJoined sideJoined halfJoined joinOf insertDir dirsFrom keep startOf walkFrom walkOf any missingLeft filledOf
     pourNode pourLabel pourLabels holds agreeAll letterOf matchesOf walk
     lt eq ofInt finite isPlace boxBox related relateOf bundledOf checkedOf firstFault
-all-hold = (refl, (refl, (refl, (refl, (refl, (refl, (refl, (refl, (refl, (refl, (refl, (refl, (refl, tt)))))))))))))
+all-hold =
+    refl and refl and refl and refl and refl and refl and p7 and p8-open and p8-no and refl and refl and refl and refl and refl and refl and
+    refl and none
 
 pub edges-hold : Every edges
 unfolding recordOf nodeOf readEnds endAt dirAt labelAt sidesAt cellLetterOf
     orderOf count onJoined sideJoined halfJoined joinOf insertDir dirsFrom keep startOf walkFrom walkOf any missingLeft filledOf
     pourNode pourLabel pourLabels wroteOf writtenOf reportBytes
-edges-hold = (refl, (refl, (refl, ((refl, refl), ((refl, refl), tt)))))
+edges-hold = refl and refl and refl and refl and refl and none

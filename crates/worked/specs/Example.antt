@@ -19,12 +19,15 @@ use Rattle.star.specs.declared.«edge_end».EdgeEnd.{EdgeEnd}
 use Rattle.star.specs.declared.«edge_end_bundle».Bundled.the-variants.{Joined}
 use Rattle.star.specs.Calls.{bundledOf}
 use Rattle.star.specs.Ends.{noEnd}
+use Rattle.plan.specs.declared.Answer.{Answer}
 use Rattle.plan.specs.declared.Answer.the-variants.{Used, Refused}
 use Rattle.plan.specs.Record.{recordOf}
 use Rattle.plan.specs.Report.{wroteOf, writtenOf}
 use Rattle.place.specs.declared.places.Place.{Place}
 use Rattle.place.specs.declared.relate.Related.the-variants.{Accepted}
 use Rattle.place.specs.Relate.{relateOf}
+use Rattle.verdict.specs.declared.pattern.Judged.{Judged}
+use Rattle.verdict.specs.Judges.{Judges}
 
 -- the nine numbers of a matrix as document 01 prints it
 abbrev pub cells : String → List ℕ
@@ -45,6 +48,8 @@ pub data Example : Type 0 where
   predicate-says : (p : Predicate) (m : String) (answer : Bool) → Example
   -- `matches` of a pattern on a matrix
   pattern-says : (p m : String) (answer : Matched) → Example
+  -- the verdict of a pattern on a matrix
+  verdict-says : (p m : String) (answer : Judged) → Example
   -- the matrix of two places
   places-give : (first second : Place) (m : String) → Example
   -- the joined label of a bundle call
@@ -54,17 +59,23 @@ pub data Example : Type 0 where
   -- the same, refused: no byte of the buffer differs
   report-refused : (m : String) (buf : List ℕ) (offset : ℕ) (r : Refusal) → Example
 
+-- the answer to a report written, and what the buffer then holds
+abbrev pub written : String → List ℕ → ℕ → Answer × List ℕ
+written m buf offset = (wroteOf buf offset, writtenOf buf offset (cells m))
+
 abbrev pub says : Example → Type 0
 says (record-gives before s used after) = recordOf (cells before) s ≡ record { answer = Used used; cells = cells after }
 says (record-refused before s r) = recordOf (cells before) s ≡ record { answer = Refused r; cells = cells before }
 says (predicate-says p m answer) = holds p (matrixOf (cells m)) ≡ answer
 says (pattern-says p m answer) = matchesOf (matrixOf (cells m)) (bytes p) ≡ answer
+says (verdict-says p m answer) = Judges answer (bytes p) (cells m)
 says (places-give first second m) = relateOf first second ≡ record { related = Accepted; cells = cells m }
 says (bundle-gives ends l) = bundledOf (slots 32 ends) (length ends) ≡ Joined l
-says (report-gives m buf offset used after) = (wroteOf buf offset ≡ Used used) × (writtenOf buf offset (cells m) ≡ after)
-says (report-refused m buf offset r) = (wroteOf buf offset ≡ Refused r) × (writtenOf buf offset (cells m) ≡ buf)
+says (report-gives m buf offset used after) = written m buf offset ≡ (Used used, after)
+says (report-refused m buf offset r) = written m buf offset ≡ (Refused r, buf)
 
 -- every entry of a list holds
-abbrev pub Every : List Example → Type 0
-Every [] = Unit {0}
-Every (e ∷ es) = says e × Every es
+infixr 20 _and_
+pub data Every : List Example → Type 0 where
+  none : Every []
+  _and_ : {e : Example} {es : List Example} → says e → Every es → Every (e ∷ es)

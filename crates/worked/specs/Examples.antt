@@ -1,5 +1,5 @@
--- Document 01, "Examples to prove": P1 to P14, but P7 and P8, which are about the verdict; and "At the edges: 32 ends pass, 33 are 5; a node
--- without ends passes; offset 0 in 12 bytes passes, offset 1 is 12."
+-- Document 01, "Examples to prove": P1 to P14; and "At the edges: 32 ends pass, 33 are 5; a node without ends passes; offset 0 in 12 bytes
+-- passes, offset 1 is 12."
 use Prim.Native.Nat.{ℕ, zero, suc}
 use mathlib.Core.Bool.{true, false}
 use mathlib.Core.List.{List, [], _∷_, _++_}
@@ -12,17 +12,19 @@ use Rattle.de9im.specs.declared.predicates.Predicate.the-variants.{EqualTopo, C
 use Rattle.de9im.specs.declared.refusal.Refusal.the-variants.{BadByte, Ends, NoRoom}
 use Rattle.de9im.specs.Bytes.{bytes}
 use Rattle.star.specs.declared.label.Label.{Label}
-use Rattle.star.specs.declared.«topology_position».Sides.{Sides}
 use Rattle.star.specs.declared.«edge_end».EdgeEnd.{EdgeEnd}
 use Rattle.place.specs.declared.places.Corner.{Corner}
 use Rattle.place.specs.declared.places.Place.{Place}
 use Rattle.place.specs.declared.places.Place.the-variants.{Box}
+use Rattle.verdict.specs.declared.Verdict.the-variants.{Open, NoForGood}
+use Rattle.verdict.specs.declared.pattern.Judged.the-variants as J
 use Rattle.worked.specs.Example.{
   Example,
   record-gives,
   record-refused,
   predicate-says,
   pattern-says,
+  verdict-says,
   places-give,
   bundle-gives,
   report-gives,
@@ -76,7 +78,7 @@ line on = record { area = false; a = record { on = on; left = None; right = None
 abbrev pub boundaryEnd : EdgeEnd
 boundaryEnd = record { dir = record { dx = pos 1; dy = pos 0 }; label = line OnBoundary }
 
--- in document 01's order; P14 has two halves
+-- in document 01's order; P8 and P14 have two halves
 abbrev pub p1-to-p14 : List Example
 p1-to-p14 =
     -- P1
@@ -91,6 +93,11 @@ p1-to-p14 =
     pattern-says "T*X******" "FFFFFFFF2" No ∷
     -- P6
     pattern-says "T*X******" "212101212" (Refused (BadByte 2)) ∷
+    -- P7
+    verdict-says "T*X******" "FFFFFFFF2" (J.Refused (BadByte 2)) ∷
+    -- P8
+    verdict-says "FF*FF****" "FFFFFFFF2" (J.Is Open) ∷
+    verdict-says "FF*FF****" "0FFFFFFF2" (J.Is NoForGood) ∷
     -- P9
     predicate-says Crosses "0F1FF0102" true ∷
     -- P10

@@ -1,5 +1,4 @@
 use borrow.Author.Needs.{needs}
-use native.Mathlib.Omega.{arith}
 use Rattle.de9im.proofs.LawsPosition.{known-row}
 use Rattle.de9im.proofs.intersection_matrix.get.Statement.{statement}
 use Rattle.de9im.proofs.intersection_matrix.get.Tie as tie

@@ -1,6 +1,6 @@
 use borrow.Author.Needs.{needs}
 use native.Mathlib.Omega.{arith}
-use mathlib.Core.Path.{_≡_, refl, sym, ap, _∙_}
+use mathlib.Core.Path.{sym, _∙_}
 use Rattle.plan.proofs.LawsRecordOrder.{node-short, node-many, node-length, node-body}
 use Rattle.plan.proofs.record.node_record.Statement.{statement}
 use Rattle.plan.proofs.record.node_record.Tie as tie

@@ -1,6 +1,6 @@
 use borrow.Author.Needs.{needs}
 use native.Mathlib.Omega.{arith}
-use mathlib.Core.Path.{_≡_, refl, sym, ap, _∙_}
+use mathlib.Core.Path.{sym, _∙_}
 use Rattle.plan.proofs.LawsRecordOrder.{no-field, no-body, too-short, other-version, a-node, an-edge, other-kind}
 use Rattle.plan.proofs.record.record.Statement.{statement}
 use Rattle.plan.proofs.record.record.Tie as tie

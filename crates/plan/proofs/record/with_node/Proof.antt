@@ -1,9 +1,8 @@
 use borrow.Author.Needs.{needs}
 use native.Mathlib.Omega.{arith}
-use mathlib.Core.Path.{_≡_, refl, sym, ap, _∙_}
-use Prim.Native.Nat.{_≤_}
-use lib.ListN.{length, take}
-use Rattle.plan.specs.EndBytes.{readEnds, good, bad, endsOf}
+use mathlib.Core.Path.{_≡_, refl, _∙_}
+use lib.ListN.{take}
+use Rattle.plan.specs.EndBytes.{readEnds, good, bad}
 use Rattle.plan.proofs.LawsRecord.{read-sound}
 use Rattle.plan.proofs.record.with_node.Statement.{statement}
 use Rattle.plan.proofs.record.with_node.Tie as tie

@@ -17,7 +17,9 @@ returns-2 c = c .refused2 .ensures ∙ sym (short-body (c .before .before .befor
     (omega arith) (omega arith))
 
 returns-3 : tie.Need-returns-3
-returns-3 c = c .refused3 .ensures ∙ sym (bad-length (c .before .before .before .before .before .before .before .before .before .before .before .args .s .now) (omega arith) (omega arith) (sym (c .before .before .is-ten .ensures) ∙ not-true _ (c .before .if3 .taken)))
+returns-3 c = c .refused3 .ensures ∙
+    sym (bad-length (c .before .before .before .before .before .before .before .before .before .before .before .args .s .now)
+    (omega arith) (omega arith) (sym (c .before .before .is-ten .ensures) ∙ not-true _ (c .before .if3 .taken)))
 
 shared-slice-read-is-version : tie.Need-shared-slice-read-is-version
 shared-slice-read-is-version c = let s = c .before .before .before .before .before .before .before .before .before .before .before .args .s .now in

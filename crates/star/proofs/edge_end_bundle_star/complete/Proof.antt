@@ -12,7 +12,8 @@ use Rattle.star.proofs.edge_end_bundle_star.complete.Statement.{stateme
 use Rattle.star.proofs.edge_end_bundle_star.complete.Tie as tie
 
 abbrev Inv-loop : tie.InvT-loop
-Inv-loop order areas a b n out₀ c₀ i₀ out c i = (i ≤ n) × (out ≡ padded (completeWalk c₀ (labelsAt order areas a b i))) × (c ≡ after completeCurrent c₀ (labelsAt order areas a b i))
+Inv-loop order areas a b n out₀ c₀ i₀ out c i = (i ≤ n) × (out ≡ padded (completeWalk c₀ (labelsAt order areas a b i))) ×
+    (c ≡ after completeCurrent c₀ (labelsAt order areas a b i))
 
 abbrev μ-loop : tie.MeasureT-loop
 μ-loop order areas a b n out₀ c₀ i₀ out c i = n - i

@@ -25,7 +25,8 @@ returns c =
     let small : length es < 1024 = omega (arith, s .pre .few, length-take (s .args .n) (s .args .ends)) in
     let labels = gathered-labels es small (g .gather .result) _ _ _ _ (g .gather .ensures) in
     let e : v .result ≡ viewOf (joinedOf es) = v .ensures ∙ ap viewOf labels in
-    let m : missingLeft (joinedOf es) ≡ true = sym (view-missing (joinedOf es) (v .result) e) ∙ sym (c .before .before .missing .ensures) ∙ c .before .if1 .taken in
+    let m : missingLeft (joinedOf es) ≡ true = sym (view-missing (joinedOf es) (v .result) e) ∙
+    sym (c .before .before .missing .ensures) ∙ c .before .if1 .taken in
     c .refused .ensures ∙ rw m refl
 
 returns-2 : tie.Need-returns-2
@@ -39,9 +40,20 @@ returns-2 c =
     let labels = gathered-labels es small (g .gather .result) _ _ _ _ (g .gather .ensures) in
     let count = gathered-count es small (g .gather .result) _ _ _ _ (g .gather .ensures) in
     let e : v .result ≡ viewOf (joinedOf es) = v .ensures ∙ ap viewOf labels in
-    let m : missingLeft (joinedOf es) ≡ false = sym (view-missing (joinedOf es) (v .result) e) ∙ sym (c .before .before .before .before .before .before .before .missing .ensures) ∙ c .before .before .before .before .before .before .if1 .left in
+    let m : missingLeft (joinedOf es) ≡ false = sym (view-missing (joinedOf es) (v .result) e) ∙
+    sym (c .before .before .before .before .before .before .before .missing .ensures) ∙
+    c .before .before .before .before .before .before .if1 .left in
     let done = completed-walk (s .args .area-a) (s .args .area-b) (joinedOf es) m in
-    rw (m, c .complete .ensures, labels, c .before .before .before .before .before .starts .ensures, e, ← done, completed-length (s .args .area-a) (s .args .area-b) (joinedOf es), count) refl
+    rw (
+      m,
+      c .complete .ensures,
+      labels,
+      c .before .before .before .before .before .starts .ensures,
+      e,
+      ← done,
+      completed-length (s .args .area-a) (s .args .area-b) (joinedOf es),
+      count,
+    ) refl
 
 pub star-of-spec : {M : Type 1} → statement M
 star-of-spec =

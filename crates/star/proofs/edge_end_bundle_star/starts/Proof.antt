@@ -3,7 +3,12 @@ use Rattle.star.proofs.edge_end_bundle_star.starts.Statement.{statement
 use Rattle.star.proofs.edge_end_bundle_star.starts.Tie as tie
 
 returns : tie.Need-returns
-returns c = simp (c .or-else2 .ensures, c .before .rest2 .ensures, c .before .before .or-else .ensures, c .before .before .before .rest .ensures)
+returns c = simp (
+  c .or-else2 .ensures,
+  c .before .rest2 .ensures,
+  c .before .before .or-else .ensures,
+  c .before .before .before .rest .ensures,
+)
 
 pub starts-spec : {M : Type 1} → statement M
 starts-spec =

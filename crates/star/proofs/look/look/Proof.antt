@@ -12,7 +12,8 @@ use Rattle.star.proofs.look.look.Statement.{statement}
 use Rattle.star.proofs.look.look.Tie as tie
 
 abbrev Inv-loop : tie.InvT-loop
-Inv-loop order areas a b n w₀ last₀ i₀ w last i = (i ≤ n) × (w ≡ lookedOf (labelsAt order areas a b i)) × (last ≡ lastOf (labelsAt order areas a b i))
+Inv-loop order areas a b n w₀ last₀ i₀ w last i = (i ≤ n) × (w ≡ lookedOf (labelsAt order areas a b i)) × (last ≡ lastOf
+    (labelsAt order areas a b i))
 
 abbrev μ-loop : tie.MeasureT-loop
 μ-loop order areas a b n w₀ last₀ i₀ w last i = n - i

@@ -25,7 +25,8 @@ returns c =
     let small : length es < 1024 = omega (arith, s .pre .few, length-take (s .args .n) (s .args .ends)) in
     let labels = gathered-labels es small (g .gather .result) _ _ _ _ (g .gather .ensures) in
     let e : v .result ≡ viewOf (joinedOf es) = v .ensures ∙ ap viewOf labels in
-    let m : missingLeft (joinedOf es) ≡ true = sym (view-missing (joinedOf es) (v .result) e) ∙ sym (c .before .missing .ensures) ∙ c .if1 .taken in
+    let m : missingLeft (joinedOf es) ≡ true = sym (view-missing (joinedOf es) (v .result) e) ∙ sym (c .before .missing .ensures) ∙
+    c .if1 .taken in
     rw m refl
 
 returns-2 : tie.Need-returns-2
@@ -39,9 +40,21 @@ returns-2 c =
     let small : length es < 1024 = omega (arith, s .pre .few, length-take (s .args .n) (s .args .ends)) in
     let labels = gathered-labels es small (g .gather .result) _ _ _ _ (g .gather .ensures) in
     let e : v .result ≡ viewOf (joinedOf es) = v .ensures ∙ ap viewOf labels in
-    let m : missingLeft (joinedOf es) ≡ false = sym (view-missing (joinedOf es) (v .result) e) ∙ sym (k .before .before .missing .ensures) ∙ k .before .if1 .left in
+    let m : missingLeft (joinedOf es) ≡ false = sym (view-missing (joinedOf es) (v .result) e) ∙
+    sym (k .before .before .missing .ensures) ∙ k .before .if1 .left in
     let n = s .args .node in
-    rw (m, c .cells-of .ensures, c .before .pour-walk .ensures, labels, k .starts .ensures, e, ← completed-walk (n .«area_a») (n .«area_b») (joinedOf es) m, c .before .before .before .before .before .before .before .raise .ensures, c .before .before .before .before .before .before .before .before .before .grid-of .ensures, grid-star (s .args .cells) (n .«on_a») (n .«on_b») (completedOf (n .«area_a») (n .«area_b») (joinedOf es))) refl
+    rw (
+      m,
+      c .cells-of .ensures,
+      c .before .pour-walk .ensures,
+      labels,
+      k .starts .ensures,
+      e,
+      ← completed-walk (n .«area_a») (n .«area_b») (joinedOf es) m,
+      c .before .before .before .before .before .before .before .raise .ensures,
+      c .before .before .before .before .before .before .before .before .before .grid-of .ensures,
+      grid-star (s .args .cells) (n .«on_a») (n .«on_b») (completedOf (n .«area_a») (n .«area_b») (joinedOf es)),
+    ) refl
 
 pub pour-star-spec : {M : Type 1} → statement M
 pour-star-spec =

@@ -12,7 +12,8 @@ use Rattle.star.proofs.pouring.pour_walk.Statement.{statement}
 use Rattle.star.proofs.pouring.pour_walk.Tie as tie
 
 abbrev Inv-loop : tie.InvT-loop
-Inv-loop g₀ order areas a b n c₀ i₀ g c i = (i ≤ n) × (g ≡ pourGrid g₀ (completeWalk c₀ (labelsAt order areas a b i))) × (c ≡ after completeCurrent c₀ (labelsAt order areas a b i))
+Inv-loop g₀ order areas a b n c₀ i₀ g c i = (i ≤ n) × (g ≡ pourGrid g₀ (completeWalk c₀ (labelsAt order areas a b i))) ×
+    (c ≡ after completeCurrent c₀ (labelsAt order areas a b i))
 
 abbrev μ-loop : tie.MeasureT-loop
 μ-loop g₀ order areas a b n c₀ i₀ g c i = n - i

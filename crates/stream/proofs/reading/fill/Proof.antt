@@ -1,12 +1,14 @@
 use borrow.Author.Needs.{needs}
 use native.Mathlib.Omega.{arith}
-use Prim.{tt}
-use mathlib.Core.Path.{_≡_}
-use denote.Ref.{now}
 use Prim.Native.Nat.{ℕ, _+_, _-_, _≤_, _<_}
+use mathlib.Core.Path.{_≡_}
 use mathlib.Core.List.{List}
+use mir.Syntax.{w64}
+use mir.Val.{toZ, ofZ}
+use denote.Ref.{now}
 use lib.ListN.{length, take, length-take}
 use Rattle.stream.proofs.LawsLists.{kept}
+use Rattle.stream.proofs.LawsReading.{got-fits}
 use Rattle.stream.proofs.reading.fill.Statement.{statement}
 use Rattle.stream.proofs.reading.fill.Tie as tie
 
@@ -15,20 +17,14 @@ within : (have n len room : ℕ) (l : List ℕ) → have < len → room ≡ len 
 within have n len room l h e k = omega (arith, length-take (room - have) l)
 
 returns : tie.Need-returns
-returns c = let s = c .before .before .before .before .before .before in
-    (tt, kept (now (s .args .buf)) (c .before .before .before .read .last .1 .0) (s .args .have) (omega arith))
-
-returns-2 : tie.Need-returns-2
-returns-2 c =
-    let s = c .before .before .before .before .before .before .before .before .before .before in
-    let r = c .before .before .before .before .before .before .before .read in
-    (tt, kept (now (s .args .buf)) (r .last .1 .0) (s .args .have) (omega arith))
-
-returns-3 : tie.Need-returns-3
-returns-3 c =
-    let s = c .before .before .before .before .before .before .before .before .before .before in (
-      (search needs, within _ _ _ _ _ (s .pre) (search needs) (c .before .count .ensures .0 .0)),
-      kept (now (s .args .buf)) (c .before .before .before .before .before .before .before .read .last .1 .0) (s .args .have) (omega arith),
+returns c =
+    let k = c .before .count in
+    let q = c .before .before .before .before .before .before in
+    let z = toZ w64 (ofZ w64 (q .read .result)) in
+    let s = q .before .before .before in (
+      got-fits (c .got-of .result) z (k .result) (s .args .have) (length (now (s .args .buf))) (c .got-of .ensures)
+          (within (s .args .have) (k .result) (length (now (s .args .buf))) _ _ (s .pre) (search needs) (k .ensures .0 .0)),
+      kept (now (s .args .buf)) (q .read .last .1 .0) (s .args .have) (omega arith),
     )
 
 pub fill-spec : {M : Type 1} → statement M
@@ -40,12 +36,9 @@ fill-spec =
     (λ c. search needs)
     (λ c κs. search needs)
     (λ c. search needs)
-    returns
-    (λ c. search needs)
     (λ c. search needs)
     (λ c. search needs)
     (λ c κs. search needs)
+    (λ c κs. search needs)
     (λ c. search needs)
-    returns-2
-    (λ c. search needs)
-    returns-3)
+    returns)
