@@ -75,8 +75,8 @@ fn verdict_of(pattern: &str, cells: [u8; 9]) -> Option<u32> {
         // The next matrix, as one counts: the first cell that can rises by one, those before it start again.
         now[..place].copy_from_slice(&cells[..place]);
         now[place] += 1;
-        for changed in 0..=place {
-            asked::put(&mut matrix, changed, now[changed]);
+        for (changed, cell) in now[..=place].iter().enumerate() {
+            asked::put(&mut matrix, changed, *cell);
         }
     }
 }

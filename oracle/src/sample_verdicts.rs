@@ -62,7 +62,10 @@ fn predicates(random: &mut Random) -> Vec<Call> {
             }
         }
         let answers = kept.iter().filter(|count| **count == KEPT).count();
-        assert_eq!(answers, 2, "a predicate is open or has one verdict for good");
+        assert_eq!(
+            answers, 2,
+            "a predicate is open or has one verdict for good"
+        );
     }
     for which in 0..11 {
         for place in 0..9 {
