@@ -62,6 +62,8 @@ struct Input {
 struct Best(f64);
 
 impl Best {
+    /// Not inlined: inlined into a line of ours and the crate's, it cost the crate's call some 2 ns.
+    #[inline(never)]
     fn round<I, T>(&mut self, call: impl Fn(&I) -> T, inputs: &[I]) {
         let start = Instant::now();
         for _ in 0..PASSES {
