@@ -152,7 +152,8 @@ impl Run {
             self.wrong += 1;
             if self.wrong < 4 {
                 println!("differs: must print {:?}, printed {printed:?}", must.text);
-                fs::write(format!("/tmp/relate-differs-{}", self.wrong), input).expect("kept");
+                let kept = std::env::temp_dir().join(format!("relate-differs-{}", self.wrong));
+                fs::write(kept, input).expect("kept");
             }
         }
     }

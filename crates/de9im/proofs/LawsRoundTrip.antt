@@ -32,9 +32,7 @@ use Rattle.de9im.specs.Text.{
 }
 use Rattle.de9im.proofs.LawsForms.{nine-spelled}
 use Rattle.de9im.proofs.LawsText.{picked, never}
-
-never-true : false ≡ true → ⊥
-never-true e = let z : _≡_ {A = ℕ} 0 1 = cc in omega arith
+use Rattle.de9im.proofs.LawsBool.{false-is-not-true}
 
 at-is-somewhere : {k : ℕ} → At k ≡ Nowhere → ⊥
 at-is-somewhere e = let z : _≡_ {A = ℕ} 0 1 = cc in omega arith
@@ -63,7 +61,7 @@ letter-forth b =
     one-letter b 70 Empty _ refl
     (one-letter b 48 ZeroDimensional _ refl
     (one-letter b 49 OneDimensional _ refl
-    (one-letter b 50 TwoDimensional Bad refl (λ e. absurd (never-true e)) (eqb b 50) refl) (eqb b 49) refl) (eqb b 48) refl) (eqb b 70) refl
+    (one-letter b 50 TwoDimensional Bad refl (λ e. absurd (false-is-not-true e)) (eqb b 50) refl) (eqb b 49) refl) (eqb b 48) refl) (eqb b 70) refl
 
 one-forth : (b k : ℕ) (bs : List ℕ) (rest : Spot) (g : Bool) → goodByte b ≡ g → (rest ≡ Nowhere → map byteOf (numbersOf bs) ≡ bs)
     → cond g rest (At k) ≡ Nowhere → map byteOf (numbersOf (b ∷ bs)) ≡ b ∷ bs
