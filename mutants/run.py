@@ -4,6 +4,7 @@
   sh mutants/run.sh                  all of them
   sh mutants/run.sh de9im star       those of the crates named
   sh mutants/run.sh 3 10-14          those with these numbers, as an earlier run printed them
+  sh mutants/run.sh --look [..]      looks only that the old text of each, and of the crates' must-fail edits, is there
 
 A line for each mutant, and at the end how many were tried, refused, survived. The copy stands in target/mutants, with
 the crates below already proved, so that only the mutant's own crate is asked about. It is asked over what the prover
@@ -79,23 +80,30 @@ def mutated(mutant, text):
     return text[:at] + mutant.new + text[at + len(mutant.old):]
 
 
-def must_fail_texts(crate):
-    """Each file's text under each must-fail edit of the crate: a mutant that gives one of these is no new one."""
-    texts = set()
+def must_fail_edits(crate):
+    """For each must-fail edit of the crate: its name, and its files' texts under it, or None if the code has moved away."""
+    edits = []
     folder = os.path.join(ROOT, "crates", crate, "must-fail")
     for name in sorted(os.listdir(folder)) if os.path.isdir(folder) else []:
-        files, path, old = {}, "", ""
+        files, path, old, fits = {}, "", "", True
         for line in open(os.path.join(folder, name), encoding="utf-8").read().splitlines():
             if line.startswith("file: "):
-                path = line[6:]
-                if path not in files:
-                    files[path] = open(os.path.join(ROOT, "crates", crate, path), encoding="utf-8").read()
+                path = os.path.join(ROOT, "crates", crate, line[6:])
+                fits = fits and os.path.isfile(path)
+                if fits and path not in files:
+                    files[path] = open(path, encoding="utf-8").read()
             elif line.startswith("old: "):
                 old = line[5:]
-            elif line.startswith("new:"):
+            elif line.startswith("new:") and fits:
+                fits = old in files[path]
                 files[path] = files[path].replace(old, line[4:].removeprefix(" "), 1)
-        texts.update(files.items())
-    return texts
+        edits.append((name, files if fits else None))
+    return edits
+
+
+def must_fail_texts(crate):
+    """Each file's text under each must-fail edit of the crate: a mutant that gives one of these is no new one."""
+    return {item for _, files in must_fail_edits(crate) if files is not None for item in files.items()}
 
 
 # What the prover says of a need that it was to close by itself.
@@ -189,16 +197,25 @@ def ask(crate, name):
     return said.returncode, open(path, encoding="utf-8", errors="replace").read()
 
 
-def try_one(mutant, taken):
-    path = os.path.join(TREE, "crates", mutant.crate, mutant.path)
+def fault(mutant, tree, taken):
+    """Why a mutant can't be tried on a tree, or an empty text; and its file's text under it."""
+    path = os.path.join(tree, "crates", mutant.crate, mutant.path)
     if not os.path.isfile(path):
-        return "no answer", "no such file"
-    text = open(path, encoding="utf-8").read()
-    changed = mutated(mutant, text)
+        return "no such file", None
+    changed = mutated(mutant, open(path, encoding="utf-8").read())
     if changed is None:
-        return "no answer", "its old text isn't in the file, or more than once"
-    if (mutant.path, changed) in taken:
-        return "no answer", "it is a must-fail edit"
+        return "its old text isn't in the file, or more than once", None
+    if (os.path.join(ROOT, "crates", mutant.crate, mutant.path), changed) in taken:
+        return "it is a must-fail edit", None
+    return "", changed
+
+
+def try_one(mutant, taken):
+    why, changed = fault(mutant, TREE, taken)
+    if why:
+        return "no answer", why
+    path = os.path.join(TREE, "crates", mutant.crate, mutant.path)
+    text = open(path, encoding="utf-8").read()
     try:
         open(path, "w", encoding="utf-8").write(changed)
         said, why = judge(*ask(mutant.crate, str(mutant.number)))
@@ -226,8 +243,30 @@ def chosen(mutants, words):
     return [m for m in mutants if not words or m.crate in crates or m.number in numbers]
 
 
+def look(mutants):
+    """Says which mutants, and which must-fail edits of their crates, the code has moved away from; the exit status."""
+    crates = list(dict.fromkeys(m.crate for m in mutants))
+    taken = {crate: must_fail_texts(crate) for crate in crates}
+    lost = 0
+    for m in mutants:
+        why, _ = fault(m, ROOT, taken[m.crate])
+        if why:
+            lost += 1
+            print(f"{m.number:3} {m.crate}/{m.path}: {m.what} ({why})")
+    for crate in crates:
+        for name, files in must_fail_edits(crate):
+            if files is None:
+                lost += 1
+                print(f"{crate}/must-fail/{name}: its old text isn't there")
+    print(f"{len(mutants)} mutants of {len(crates)} crates looked at; {lost} of them and of the must-fail edits can't be tried")
+    return 1 if lost else 0
+
+
 def main():
-    mutants = chosen(read_list(open(os.path.join(HERE, "list.txt"), encoding="utf-8").read()), sys.argv[1:])
+    words = [word for word in sys.argv[1:] if word != "--look"]
+    mutants = chosen(read_list(open(os.path.join(HERE, "list.txt"), encoding="utf-8").read()), words)
+    if "--look" in sys.argv:
+        sys.exit(look(mutants))
     crates = list(dict.fromkeys(m.crate for m in mutants))
     prepare(crates)
     taken = {crate: must_fail_texts(crate) for crate in crates}

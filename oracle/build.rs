@@ -114,11 +114,11 @@ fn processor(archive: &Path) -> &'static str {
 
 /// The library itself, or an answer that says how to get it.
 fn library(place: &Path) -> PathBuf {
-    let library = place.join("libgateway.a");
+    let library = place.join("libmisonkandi.a");
     println!("cargo:rerun-if-changed={}", library.display());
     assert!(
         library.exists(),
-        "{} isn't there: run library.sh, or let MISONKANDI_LIB_DIR name its folder",
+        "{} isn't there: run tools/library.sh, or let MISONKANDI_LIB_DIR name its folder",
         library.display()
     );
     library
@@ -127,57 +127,27 @@ fn library(place: &Path) -> PathBuf {
 fn link(place: &Path) {
     println!("cargo:rustc-cfg=linked");
     println!("cargo:rustc-link-search=native={}", place.display());
-    println!("cargo:rustc-link-lib=static=gateway");
-}
-
-/// Functions that a library may not have yet: the name that says so, and those that it then has.
-const PARTS: [(&str, &[&str]); 3] = [
-    ("has_stars", &["misonkandi_bundle", "misonkandi_star"]),
-    ("has_records", &["misonkandi_record"]),
-    (
-        "has_reports",
-        &["misonkandi_read_report", "misonkandi_write_report"],
-    ),
-];
-
-/// The parts whose functions the archive has. A name stands in its symbol table with a zero after it.
-fn parts(archive: &Path) -> Vec<&'static str> {
-    let bytes = fs::read(archive).expect("the library can be read");
-    let has = |name: &&str| {
-        let symbol = [name.as_bytes(), b"\0"].concat();
-        bytes.windows(symbol.len()).any(|window| window == symbol)
-    };
-    PARTS
-        .iter()
-        .filter(|(_, names)| names.iter().all(has))
-        .map(|(part, _)| *part)
-        .collect()
+    println!("cargo:rustc-link-lib=static=misonkandi");
 }
 
 fn link_library() {
     println!("cargo:rustc-check-cfg=cfg(far)");
     println!("cargo:rustc-check-cfg=cfg(linked)");
-    for (part, _) in PARTS {
-        println!("cargo:rustc-check-cfg=cfg({part})");
-    }
     let place = folder("MISONKANDI_LIB_DIR", "../target/staticlib");
     println!("cargo:rerun-if-changed={}", place.display());
     let library = library(&place);
-    let parts = parts(&library);
-    for part in &parts {
-        println!("cargo:rustc-cfg={part}");
-    }
     let machine = env::var("CARGO_CFG_TARGET_ARCH").expect("cargo gives it");
     let mut ours = String::from("the archive itself");
     if processor(&library) == machine {
         link(&place);
     } else {
         println!("cargo:rustc-cfg=far");
-        build_far_side(&library, &parts);
+        build_far_side(&library);
         let here = place.join(&machine);
         if made_beside(&here, &library) {
             link(&here);
-            let compiler = fs::read_to_string(here.join("compiler")).expect("library.sh wrote it");
+            let compiler =
+                fs::read_to_string(here.join("compiler")).expect("tools/library.sh wrote it");
             ours = format!(
                 "the archive's LLVM module, compiled for {machine} by {}",
                 compiler.trim()
@@ -187,7 +157,7 @@ fn link_library() {
     println!("cargo:rustc-env=MISONKANDI_OURS={ours}");
 }
 
-/// Whether library.sh has compiled this archive's LLVM module for the processor that the oracle runs on.
+/// Whether tools/library.sh has compiled this archive's LLVM module for the processor that the oracle runs on.
 fn made_beside(here: &Path, library: &Path) -> bool {
     let Ok(beside) = fs::read(here.join("beside.a")) else {
         return false;
@@ -195,7 +165,7 @@ fn made_beside(here: &Path, library: &Path) -> bool {
     let fresh = fs::read(library).expect("the library can be read") == beside;
     if !fresh {
         println!(
-            "cargo:warning={} is of another libgateway.a and isn't linked: run library.sh again",
+            "cargo:warning={} is of another libmisonkandi.a and isn't linked: run tools/library.sh again",
             here.display()
         );
     }
@@ -223,10 +193,10 @@ fn name_the_compiler() {
 }
 
 /// Links the library into far/far_side.c, a program for the library's own processor, and finds what can run it.
-fn build_far_side(library: &Path, parts: &[&str]) {
+fn build_far_side(library: &Path) {
     let here = from_cargo("CARGO_MANIFEST_DIR");
     let source = here.join("far/far_side.c");
-    let header = here.join("../crates/gateway");
+    let header = here.join("../crates/misonkandi");
     println!("cargo:rerun-if-changed={}", source.display());
     println!(
         "cargo:rerun-if-changed={}",
@@ -245,11 +215,6 @@ fn build_far_side(library: &Path, parts: &[&str]) {
             "-ffreestanding",
             "-fno-builtin",
         ])
-        .args(
-            parts
-                .iter()
-                .map(|part| format!("-D{}", part.to_uppercase())),
-        )
         .args(["-nostdlib", "-static", "-fuse-ld=lld", "-I"])
         .arg(header)
         .arg(source)

@@ -1,5 +1,5 @@
 #!/bin/sh
-# Makes crates/replay/stdin again: the crate's answers, then GEOS's.
+# Makes crates/replay/stdin again: the crate's answers and document 01's, then GEOS's. README.md says which is whose.
 set -eu
 cd "$(dirname "$0")"
 file=../crates/replay/stdin

@@ -8,7 +8,7 @@
  * If the count's highest bit is set, calls on ends, records and reports follow, and the other bits count their bytes.
  * For each: operation, a (4), b (4), offset (8), count of `out` (4), count of `bytes` (4), then out and bytes with a
  * guard of 16 before, between and after. The calls are made where these lie, and all comes back with the word in the
- * place of a. HAS_STARS, HAS_RECORDS and HAS_REPORTS say which of them the library has. */
+ * place of a. */
 #include "bare.h"
 #include "misonkandi.h"
 
@@ -40,6 +40,7 @@ static uint32_t call(uint8_t operation, uint32_t a, uint32_t b, uint8_t dimensio
     case 8: misonkandi_transpose(cells); return 0;
     case 9: return misonkandi_verdict(cells, a);
     case 10: return misonkandi_verdict_pattern(cells, text, count);
+    case 11: return misonkandi_predicate_named(text, count);
     }
     end(4);
     return 0;
@@ -57,19 +58,12 @@ static void answer(const uint8_t *from, uint8_t *to)
 static uint32_t plan_call(uint8_t operation, uint32_t a, uint32_t b, size_t offset, uint8_t *out, uint8_t *bytes,
                           size_t count)
 {
-    (void)a, (void)b, (void)offset, (void)out, (void)bytes, (void)count;
     switch (operation) {
-#ifdef HAS_STARS
     case 0: return misonkandi_bundle(bytes, count, out);
     case 1: return misonkandi_star(bytes, count, a, b, out);
-#endif
-#ifdef HAS_RECORDS
     case 2: return misonkandi_record(out, bytes, count);
-#endif
-#ifdef HAS_REPORTS
     case 3: return misonkandi_read_report(out, bytes, count);
     case 4: return misonkandi_write_report(out, bytes, count, offset);
-#endif
     }
     end(6);
     return 0;

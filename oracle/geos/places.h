@@ -21,7 +21,10 @@ typedef struct {
     uint8_t cells[9];
 } answer;
 
-enum { HELD = 9, NOT_A_PLACE = 256 * 13 };
+enum { HELD = 9 };
+
+/* Refusal 13 as the C interface has it: 2^31 plus 256 times the number. */
+#define NOT_A_PLACE (0x80000000u + 256u * 13u)
 
 /* rules.c: document 01's rules, a second time. */
 void by_the_rules(const pair *p, char letters[10]);

@@ -15,9 +15,9 @@ out=$(mktemp -d)
 trap 'rm -rf "$out"' EXIT
 
 machine=$(uname -m)
-archive=../../target/staticlib/libgateway.a
+archive=../../target/staticlib/libmisonkandi.a
 here=../../target/staticlib/$machine
-header=../../crates/gateway
+header=../../crates/misonkandi
 
 build() { # PROGRAM WORDS
     program=$1
@@ -27,7 +27,7 @@ build() { # PROGRAM WORDS
 
 # The archive, and off x86-64 its LLVM module compiled for this processor.
 library() {
-    sh ../library.sh >"$out/log" 2>&1 || { cat "$out/log" >&2; exit 2; }
+    sh ../../tools/library.sh >"$out/log" 2>&1 || { cat "$out/log" >&2; exit 2; }
 }
 
 # The archive in a program of its own, run by MISONKANDI_EMULATOR, by qemu-x86_64 from PATH or by the one beside `rt`.
@@ -46,7 +46,7 @@ case ${1:-} in
     library
     ours="the archive itself" linked=$archive
     if [ "$machine" != x86_64 ]; then
-        ours="the archive's LLVM module, compiled for $machine by $(cat "$here/compiler")" linked=$here/libgateway.a
+        ours="the archive's LLVM module, compiled for $machine by $(cat "$here/compiler")" linked=$here/libmisonkandi.a
     fi
     build bench -D"OURS=\"$ours\"" library.c "$linked"
     "$out/bench" ;;

@@ -1,29 +1,40 @@
 /* Prints GEOS's answers on the grid 0 to 3 as lines for the program `replay`. Our library isn't asked. */
 #include "places.h"
+#include <math.h>
 #include <stdio.h>
 #include <string.h>
 
 static const char *const head =
-    "# Points and boxes: answers of GEOS %s `relate`; our library was not asked.\n"
-    "# Made by, and made again by:  sh oracle/geos/run.sh --sample\n"
-    "# A line is a letter and 21 bytes in hex: kind of A (0 point, 1 box), its x, y, u, v, kind of B, its x, y, u, v, the\n"
-    "# answer (2 bytes, high byte first), nine cells after. The cells lent hold nine times 09.\n"
-    "# All pairs of points and boxes with whole coordinates 0 to 3. Last, by document 01 alone: refusal 13 for a box without\n"
-    "# min < max on both axes and for a kind above 1.\n";
+    "# G misonkandi_relate_places: given are the kind of A (0 point, 1 box), its x, y, u, v, the kind of B, its x, y, u, v.\n"
+    "# A coordinate's byte is a whole number, or fc for -0, fd for -infinity, fe for infinity, ff for no number.\n"
+    "# G: the answers of GEOS %s `relate` on all pairs of points and boxes with whole coordinates 0 to 3, and some with -0. Last,\n"
+    "# by document 01 alone: refusal 13 for a coordinate that isn't finite, for a box without min < max on both axes and for a\n"
+    "# kind above 1.\n";
 
-/* A point's second corner is not looked at; as 0 it is never above the first. */
-static void print_place(const place *p)
+/* A coordinate's byte, as crates/replay/src/plan_calls.rt reads it: whole numbers up to 251, then four of its own. */
+static unsigned byte_of(double x)
 {
-    unsigned u = p->kind ? (unsigned)p->x1 : 0, v = p->kind ? (unsigned)p->y1 : 0;
-    printf("%02x%02x%02x%02x%02x", (unsigned)p->kind, (unsigned)p->x0, (unsigned)p->y0, u, v);
+    if (isnan(x))
+        return 255;
+    if (isinf(x))
+        return x > 0 ? 254 : 253;
+    return x == 0 && signbit(x) ? 252 : (unsigned)x;
 }
 
+static void print_place(const place *p)
+{
+    printf("%02x%02x%02x%02x%02x", (unsigned)p->kind, byte_of(p->x0), byte_of(p->y0), byte_of(p->x1), byte_of(p->y1));
+}
+
+/* The cells lent, the word, no a, no b, no dimension, ten bytes given, the cells due. */
 static void print_line(const place *a, const place *b, unsigned word, const uint8_t cells[9])
 {
     putchar('G');
+    for (int i = 0; i < 9; i++)
+        printf("%02x", HELD);
+    printf("%08x%018x%04x", word, 0, 10);
     print_place(a);
     print_place(b);
-    printf("%04x", word);
     for (int i = 0; i < 9; i++)
         printf("%02x", cells[i]);
     putchar('\n');
@@ -44,11 +55,33 @@ static void print_pair(const pair *p)
 
 static void print_refused(place bad)
 {
-    const place point = {0, 1, 1, 0, 0}, box = {1, 0, 0, 3, 3};
+    const place point = {0, 1, 1, NAN, NAN}, box = {1, 0, 0, 3, 3};
     uint8_t held[9];
     memset(held, HELD, 9);
     print_line(&bad, &point, NOT_A_PLACE, held);
     print_line(&box, &bad, NOT_A_PLACE, held);
+}
+
+/* A coordinate that isn't finite, at each place where it is looked at. */
+static void print_not_finite(double x)
+{
+    print_refused((place){0, x, 1, 0, 0});
+    print_refused((place){0, 1, x, 0, 0});
+    print_refused((place){1, x, 1, 2, 2});
+    print_refused((place){1, 1, x, 2, 2});
+    print_refused((place){1, 1, 1, x, 2});
+    print_refused((place){1, 1, 1, 2, x});
+}
+
+/* -0 equals 0; a point's second corner is not looked at. */
+static void print_odd(void)
+{
+    const place box = {1, 0, 0, 3, 3}, other = {1, -0.0, -0.0, 2, 3};
+    const place point = {0, 0, 2, NAN, INFINITY}, corner = {0, -0.0, -0.0, -INFINITY, NAN};
+    const place all[] = {box, other, point, corner};
+    for (int i = 0; i < 4; i++)
+        for (int j = 0; j < 4; j++)
+            print_pair(&(pair){all[i], all[j]});
 }
 
 int main(void)
@@ -59,11 +92,15 @@ int main(void)
     pair *pairs = grid_pairs(3, &count);
     for (long i = 0; i < count; i++)
         print_pair(&pairs[i]);
+    print_odd();
     for (int x = 0; x < 3; x++)
         for (int y = 0; y < 3; y++)
             if (x < 2 || y < 2)
                 print_refused((place){1, 1, 1, x, y});
     print_refused((place){2, 0, 0, 3, 3});
     print_refused((place){255, 0, 0, 3, 3});
+    print_not_finite(NAN);
+    print_not_finite(INFINITY);
+    print_not_finite(-INFINITY);
     return 0;
 }

@@ -81,7 +81,7 @@ pub fn said(call: &Call) -> Option<Said> {
         Op::SetAtLeast => set_at_least(call),
         Op::Verdict => asked_verdict::predicate(call),
         Op::VerdictPattern => asked_verdict::pattern(call),
-        Op::Predicate | Op::Transpose => None,
+        Op::Predicate | Op::Transpose | Op::PredicateNamed => None,
     }
 }
 

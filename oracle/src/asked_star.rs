@@ -13,7 +13,7 @@ use crate::relate::geomgraph::{
     LabeledEdgeEndBundleStar,
 };
 use crate::rule::BAD_CODE;
-use crate::rule_plan::{BAD_KIND, BAD_VERSION, REFUSED, TOO_FEW_BYTES};
+use crate::rule_plan::{BAD_KIND, BAD_VERSION, TOO_FEW_BYTES};
 use crate::rule_star::{
     BAD_DIRECTION, BAD_LABEL, END_BYTES, LABEL_BYTES, LARGEST_PART, MOST_ENDS, TOO_MANY_ENDS,
     WRONG_LENGTH,
@@ -58,9 +58,9 @@ pub fn said(call: &PlanCall) -> Option<PlanSaid> {
         PlanOp::Star => asked::quietly(|| star(call)),
         PlanOp::Record => {
             let mut matrix = asked::matrix(&call.cells());
-            asked::quietly(|| match record(&mut matrix, &call.bytes) {
-                Ok(used) => Ok((used, asked::cells(&matrix).to_vec())),
-                Err(word) => Err(REFUSED + word),
+            asked::quietly(|| {
+                let used = record(&mut matrix, &call.bytes)?;
+                Ok((used, asked::cells(&matrix).to_vec()))
             })
         }
         PlanOp::ReadReport | PlanOp::WriteReport => return None,
@@ -80,6 +80,7 @@ fn bundle(bytes: &[u8]) -> Result<(u32, Vec<u8>), u32> {
 }
 
 fn star(call: &PlanCall) -> Result<(u32, Vec<u8>), u32> {
+    whole_ends(&call.bytes)?;
     let area = |code: u32| code_position(u8::try_from(code).unwrap_or(u8::MAX));
     let (a, b) = (graph(area(call.a)?), graph(area(call.b)?));
     let labels = labels(&star_of(&call.bytes)?.into_labeled(&a, &b));
@@ -113,7 +114,11 @@ pub fn completed(ends: &[EdgeEnd<f64>], graphs: &[GeometryGraph<'_, f64>; 2]) ->
 }
 
 /// A node on both boundaries and its star, completed and poured: as a record's node, but from ends that are read already.
-pub fn poured(matrix: &mut IntersectionMatrix, ends: &[EdgeEnd<f64>], graphs: &[GeometryGraph<'_, f64>; 2]) {
+pub fn poured(
+    matrix: &mut IntersectionMatrix,
+    ends: &[EdgeEnd<f64>],
+    graphs: &[GeometryGraph<'_, f64>; 2],
+) {
     let star = completed(ends, graphs);
     CoordNode::at(NODE, [CoordPos::OnBoundary; 2]).update_intersection_matrix(matrix);
     star.update_intersection_matrix(matrix);
@@ -128,7 +133,7 @@ pub fn code_position(code: u8) -> Result<Option<CoordPos>, u32> {
     CODES.get(usize::from(code)).copied().ok_or(BAD_CODE)
 }
 
-fn for_each_end(bytes: &[u8], mut take: impl FnMut(EdgeEnd<f64>)) -> Result<(), u32> {
+fn whole_ends(bytes: &[u8]) -> Result<&[[u8; END_BYTES]], u32> {
     let (ends, rest) = bytes.as_chunks::<END_BYTES>();
     if !rest.is_empty() {
         return Err(WRONG_LENGTH);
@@ -136,7 +141,12 @@ fn for_each_end(bytes: &[u8], mut take: impl FnMut(EdgeEnd<f64>)) -> Result<(), 
     if ends.len() > MOST_ENDS {
         return Err(TOO_MANY_ENDS);
     }
-    ends.iter().try_for_each(|bytes| end(bytes).map(&mut take))
+    Ok(ends)
+}
+
+fn for_each_end(bytes: &[u8], mut take: impl FnMut(EdgeEnd<f64>)) -> Result<(), u32> {
+    let mut ends = whole_ends(bytes)?.iter();
+    ends.try_for_each(|bytes| end(bytes).map(&mut take))
 }
 
 fn end(bytes: &[u8; END_BYTES]) -> Result<EdgeEnd<f64>, u32> {

@@ -76,52 +76,34 @@ impl Best {
     }
 }
 
-/// Whether the library can be called here, and has the function that a line is about.
-#[derive(Clone, Copy, PartialEq, Eq)]
-pub(crate) enum Ours {
-    There,
-    NotBuilt,
-    NotYet,
-}
-
-impl Ours {
-    pub(crate) fn asked_for(in_library: bool) -> Self {
-        match (cfg!(linked), in_library) {
-            (false, _) => Ours::NotBuilt,
-            (true, false) => Ours::NotYet,
-            (true, true) => Ours::There,
-        }
-    }
-}
+/// Whether the library can be called here.
+const THERE: bool = cfg!(linked);
 
 /// One line of the table. The sides take turns, so that a busy machine slows both.
 pub(crate) fn measure<I, T, U: PartialEq>(
     name: &str,
-    there: Ours,
     inputs: &[I],
     theirs: impl Fn(&I) -> T,
     ours: impl Fn(&I) -> U,
     right: impl Fn(&I) -> U,
 ) {
-    if there == Ours::There {
+    if THERE {
         let all = inputs.iter().all(|input| ours(input) == right(input));
         assert!(all, "{name}: the library's answers aren't document 01's");
     }
     let (mut crates, mut library) = (Best(f64::MAX), Best(f64::MAX));
     for _ in 0..ROUNDS {
         crates.round(&theirs, inputs);
-        if there == Ours::There {
+        if THERE {
             library.round(&ours, inputs);
         }
     }
     let (crates, library) = (crates.0, library.0);
-    match there {
-        Ours::There => println!(
-            "| {name} | {crates:.2} | {library:.2} | {:.2} |",
-            crates / library
-        ),
-        Ours::NotBuilt => println!("| {name} | {crates:.2} | not measured | |"),
-        Ours::NotYet => println!("| {name} | {crates:.2} | not in this library yet | |"),
+    if THERE {
+        let ratio = crates / library;
+        println!("| {name} | {crates:.2} | {library:.2} | {ratio:.2} |");
+    } else {
+        println!("| {name} | {crates:.2} | not measured | |");
     }
 }
 
@@ -150,7 +132,6 @@ fn disagreeing_at(random: &mut Random, cells: &[u8; 9], place: usize) -> [u8; 9]
 fn measure_matches(name: &str, inputs: &[Input]) {
     measure(
         name,
-        Ours::asked_for(true),
         inputs,
         |input| input.matrix.matches(&input.text),
         |input| linked::matches(&input.cells, input.text.as_bytes()),
@@ -161,7 +142,6 @@ fn measure_matches(name: &str, inputs: &[Input]) {
 fn measure_predicates(name: &str, inputs: &[Input]) {
     measure(
         name,
-        Ours::asked_for(true),
         inputs,
         |input| asked::predicates(&input.matrix),
         |input| linked::predicates(&input.cells),
@@ -178,7 +158,6 @@ fn all_eleven(verdict: impl Fn(u32) -> u32) -> u32 {
 fn measure_verdicts(name: &str, inputs: &[Input]) {
     measure(
         name,
-        Ours::asked_for(true),
         inputs,
         |input| asked::predicates(&input.matrix),
         |input| all_eleven(|which| linked::verdict(&input.cells, which)),
@@ -190,7 +169,6 @@ fn measure_verdicts(name: &str, inputs: &[Input]) {
 fn measure_verdict_pattern(name: &str, inputs: &[Input]) {
     measure(
         name,
-        Ours::asked_for(true),
         inputs,
         |input| input.matrix.matches(&input.text),
         |input| linked::verdict_pattern(&input.cells, input.text.as_bytes()),
@@ -201,7 +179,6 @@ fn measure_verdict_pattern(name: &str, inputs: &[Input]) {
 fn measure_text_in(name: &str, inputs: &[Input]) {
     measure(
         name,
-        Ours::asked_for(true),
         inputs,
         |input| IntersectionMatrix::from_str(&input.text),
         |input| {
@@ -225,7 +202,7 @@ pub fn main() {
         std::env::consts::ARCH
     );
     println!("Crate: {}.", env!("MISONKANDI_RUSTC"));
-    if cfg!(linked) {
+    if THERE {
         println!(
             "Ours: {}, linked into this process.",
             env!("MISONKANDI_OURS")

@@ -6,8 +6,8 @@
 
 use crate::asked;
 use crate::asked_star::{self, code_position, completed, graph, ready_ends};
-use crate::bench::{Ours, measure};
-use crate::ours::plans::{LABELS, PlanCall, PlanOp};
+use crate::bench::measure;
+use crate::ours::plans::{LABELS, PlanCall};
 use crate::plan_pieces::{Directions, direction, end, record};
 use crate::random::Random;
 use crate::relate::geomgraph::intersection_matrix::IntersectionMatrix;
@@ -94,7 +94,6 @@ pub(crate) fn measure_all(random: &mut Random) {
 fn measure_records(name: &str, nodes: &[Node]) {
     measure(
         name,
-        Ours::asked_for(PlanOp::Record.is_in_library()),
         nodes,
         |node| {
             let mut matrix = node.matrix.clone();
@@ -118,7 +117,6 @@ fn measure_records(name: &str, nodes: &[Node]) {
 fn measure_nodes(name: &str, nodes: &[Node]) {
     measure(
         name,
-        Ours::asked_for(PlanOp::Record.is_in_library()),
         nodes,
         |node| {
             let mut matrix = node.matrix.clone();
@@ -130,14 +128,17 @@ fn measure_nodes(name: &str, nodes: &[Node]) {
             linked::record(&mut cells, &node.record);
             cells
         },
-        |node| rule_plan::record(&START, &node.record).expect("it is good").1,
+        |node| {
+            rule_plan::record(&START, &node.record)
+                .expect("it is good")
+                .1
+        },
     );
 }
 
 fn measure_stars(name: &str, nodes: &[Node]) {
     measure(
         name,
-        Ours::asked_for(PlanOp::Star.is_in_library()),
         nodes,
         |node| completed(&node.ends, &node.graphs),
         |node| {

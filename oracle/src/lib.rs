@@ -40,5 +40,6 @@ mod rule;
 mod rule_plan;
 mod rule_star;
 mod rule_verdict;
+mod sample_line;
 mod sample_plans;
 mod sample_verdicts;

@@ -2,8 +2,8 @@
 //! files and through pipes, and what it prints is held to document 01's rules. Each record is also put to the library's
 //! record call.
 //!
-//! Two builds are run: `target/native/relate`, the program's module compiled for this processor (`program.sh`), and `./relate`,
-//! the x86-64 program as `rt` builds it, under its emulator elsewhere.
+//! Two builds are run: `target/native/relate`, the program's module compiled for this processor (tools/program.sh), and
+//! `./relate` told to run the x86-64 program as `rt` builds it, under its emulator elsewhere (`MISONKANDI_NATIVE=no`).
 
 use std::fs::{self, File};
 use std::io::Write;
@@ -19,19 +19,6 @@ use crate::random::Random;
 use crate::{rule, rule_plan};
 
 const START: [u8; 9] = [0, 0, 0, 0, 0, 0, 0, 0, 3];
-const NAMES: [&str; 11] = [
-    "disjoint",
-    "intersects",
-    "within",
-    "contains",
-    "equal_topo",
-    "coveredby",
-    "covers",
-    "contains_properly",
-    "touches",
-    "crosses",
-    "overlaps",
-];
 
 /// What the program must print, which refusal it ends with (0: none), and each record as a call of the library.
 struct Expected {
@@ -55,7 +42,7 @@ fn expected(input: &[u8]) -> Expected {
                 calls.last_mut().expect("one").bytes.truncate(used as usize);
             }
             Err(word) => {
-                let refusal = word / 256;
+                let refusal = rule::number(word).expect("a refusal");
                 let text = format!("refused {refusal} at {at}\n");
                 return Expected {
                     text,
@@ -75,7 +62,7 @@ fn expected(input: &[u8]) -> Expected {
 fn answers(cells: &[u8; 9]) -> String {
     let bits = rule::predicates(cells);
     let mut text = String::from_utf8(rule::text(cells).to_vec()).expect("letters") + "\n";
-    for (k, name) in NAMES.iter().enumerate() {
+    for (k, name) in rule::NAMES.iter().enumerate() {
         let answer = if bits >> k & 1 == 1 { "yes" } else { "no" };
         text += &format!("{name} {answer}\n");
     }
@@ -104,7 +91,9 @@ struct Run {
 impl Run {
     fn printed(&mut self, program: &Path, input: &[u8], way: Way) -> String {
         let mut command = Command::new(program);
-        command.stdout(Stdio::piped());
+        command.env("MISONKANDI_NATIVE", "no");
+        // `./relate` says a refusal in words there
+        command.stdout(Stdio::piped()).stderr(Stdio::null());
         let output = match way {
             Way::File => {
                 fs::write(&self.file, input).expect("a file for the input");
@@ -144,9 +133,7 @@ impl Run {
         let replies = self.library.answer_plans(&must.calls);
         let differs = must.calls.iter().zip(&replies).any(|(call, reply)| {
             let rule = rule_plan::outcome(call);
-            reply
-                .as_ref()
-                .is_some_and(|reply| reply.word != rule.word || reply.out != rule.out)
+            reply.word != rule.word || reply.out != rule.out
         });
         if printed != must.text || differs {
             self.wrong += 1;
@@ -242,7 +229,11 @@ impl Run {
 
     fn unreadable(&mut self, program: &Path) {
         let folder = File::open("/").expect("a folder");
-        let output = Command::new(program).stdin(folder).output().expect("run");
+        let output = Command::new(program)
+            .env("MISONKANDI_NATIVE", "no")
+            .stdin(folder)
+            .output()
+            .expect("run");
         self.inputs += 1;
         if output.stdout != b"unreadable\n" {
             self.wrong += 1;

@@ -7,10 +7,35 @@
 use crate::ours::{Call, Op};
 use crate::rule_verdict;
 
-/// Refusals are 256 times the number, plus the place where there is one.
-pub const BAD_CODE: u32 = 256 * 6;
-pub const NOT_NINE: u32 = 256 * 10;
-pub const BAD_BYTE: u32 = 256 * 11;
+/// The C interface's words: below this a word is an answer. A refusal is this, plus 256 times its number, plus the place
+/// where there is one.
+pub const REFUSED: u32 = 1 << 31;
+
+pub const fn refusal(number: u32) -> u32 {
+    REFUSED + 256 * number
+}
+
+pub const BAD_CODE: u32 = refusal(6);
+pub const NOT_NINE: u32 = refusal(10);
+pub const BAD_BYTE: u32 = refusal(11);
+
+/// Document 01 names eleven predicates; the C interface says this for any other row, and for a text that is no name.
+pub const NO_SUCH_ROW: u32 = u32::MAX;
+
+/// Document 01's table, row by row.
+pub const NAMES: [&str; 11] = [
+    "disjoint",
+    "intersects",
+    "within",
+    "contains",
+    "equal_topo",
+    "coveredby",
+    "covers",
+    "contains_properly",
+    "touches",
+    "crosses",
+    "overlaps",
+];
 
 /// What a call must answer, and the nine bytes that it must leave.
 #[derive(Clone, Debug, PartialEq, Eq)]
@@ -24,9 +49,20 @@ pub fn read(cells: &[u8; 9]) -> [u8; 9] {
     cells.map(|cell| cell.min(3))
 }
 
-/// Whether a word of a call other than the predicates is a refusal.
+/// Document 01's number of a refusal, or None for a word that is none.
+pub fn number(word: u32) -> Option<u32> {
+    let refuses = (REFUSED..NO_SUCH_ROW).contains(&word);
+    refuses.then_some((word & !REFUSED) / 256)
+}
+
 pub fn refuses(word: u32) -> bool {
-    word >= 256
+    number(word).is_some()
+}
+
+/// The row of a predicate's name.
+fn row(name: &[u8]) -> u32 {
+    let found = NAMES.iter().position(|known| known.as_bytes() == name);
+    found.map_or(NO_SUCH_ROW, |row| row as u32)
 }
 
 pub fn outcome(call: &Call) -> Outcome {
@@ -36,7 +72,7 @@ pub fn outcome(call: &Call) -> Outcome {
     };
     match call.op {
         Op::Predicates => same(predicates(&call.cells)),
-        Op::Predicate if call.a >= 11 => same(2),
+        Op::Predicate if call.a >= 11 => same(NO_SUCH_ROW),
         Op::Predicate => same(predicates(&call.cells) >> call.a & 1),
         Op::Matches => same(matches(&call.cells, call.text())),
         Op::FromText => changed(call, letters(call.text())),
@@ -50,6 +86,7 @@ pub fn outcome(call: &Call) -> Outcome {
         Op::Transpose => changed(call, Ok(transposed(&call.cells))),
         Op::Verdict => same(rule_verdict::predicate(&call.cells, call.a)),
         Op::VerdictPattern => same(rule_verdict::pattern(&call.cells, call.text())),
+        Op::PredicateNamed => same(row(call.text())),
     }
 }
 

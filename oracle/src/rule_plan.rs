@@ -2,21 +2,27 @@
 //! answer.
 
 use crate::ours::plans::{LABELS, PlanCall, PlanOp};
-use crate::rule::{self, BAD_CODE};
+use crate::rule::{self, BAD_CODE, refusal};
 use crate::rule_star::{
     self, LABEL_BYTES, Label, MOST_ENDS, Position, TOO_MANY_ENDS, WRONG_LENGTH, pour_label,
     pour_node,
 };
 
-pub const TOO_FEW_BYTES: u32 = 256;
-pub const BAD_VERSION: u32 = 256 * 2;
-pub const BAD_KIND: u32 = 256 * 3;
-pub const NO_ROOM: u32 = 256 * 12;
-
-/// Calls that answer the bytes used set this bit in a refusal's word.
-pub const REFUSED: u32 = 1 << 31;
+pub const TOO_FEW_BYTES: u32 = refusal(1);
+pub const BAD_VERSION: u32 = refusal(2);
+pub const BAD_KIND: u32 = refusal(3);
+pub const NO_ROOM: u32 = refusal(12);
 
 pub const REPORT_BYTES: usize = 12;
+
+/// The numbers that each function can give: a run that doesn't meet all of them has looked at too little.
+pub const REACHABLE: [(PlanOp, &[u32]); 5] = [
+    (PlanOp::Bundle, &[4, 5, 6, 7, 8]),
+    (PlanOp::Star, &[4, 5, 6, 7, 8, 9]),
+    (PlanOp::Record, &[1, 2, 3, 4, 5, 6, 7, 8, 9]),
+    (PlanOp::ReadReport, &[1, 2, 4, 11]),
+    (PlanOp::WriteReport, &[12]),
+];
 
 /// What a call must answer, and every byte that it was lent, afterwards.
 #[derive(Clone, Debug, PartialEq, Eq)]
@@ -24,17 +30,6 @@ pub struct PlanOutcome {
     pub word: u32,
     pub out: Vec<u8>,
     pub bytes: Vec<u8>,
-}
-
-/// Document 01's number of a refusal, or None for a word that is none.
-pub fn refusal(op: PlanOp, word: u32) -> Option<u32> {
-    let flagged = !matches!(op, PlanOp::Bundle | PlanOp::Star);
-    let refuses = if flagged {
-        word >= REFUSED
-    } else {
-        rule::refuses(word)
-    };
-    refuses.then_some((word & !REFUSED) / 256)
 }
 
 pub fn outcome(call: &PlanCall) -> PlanOutcome {
@@ -71,8 +66,7 @@ fn written(call: &PlanCall, result: Result<(u32, Vec<u8>), u32>) -> PlanOutcome 
 
 /// The bytes used and the cells.
 fn used(call: &PlanCall, result: Result<(u32, [u8; 9]), u32>) -> PlanOutcome {
-    let result = result.map(|(used, cells)| (used, cells.to_vec()));
-    written(call, result.map_err(|word| REFUSED + word))
+    written(call, result.map(|(used, cells)| (used, cells.to_vec())))
 }
 
 /// "A bundle call joins all its ends, directions not compared."
@@ -81,8 +75,9 @@ fn bundle(bytes: &[u8]) -> Result<(u32, Vec<u8>), u32> {
     Ok((0, rule_star::joined(&ends).to_bytes().to_vec()))
 }
 
-/// The header: an area code above 3 before anything else; zeros after the last label.
+/// In a record's order: 4, 5, the area positions' 6, each end in turn, 9. The header: zeros after the last label.
 fn star(bytes: &[u8], a: u32, b: u32) -> Result<(u32, Vec<u8>), u32> {
+    rule_star::whole_ends(bytes)?;
     let area = |code: u32| rule_star::position(u8::try_from(code).unwrap_or(u8::MAX));
     let areas = [area(a)?, area(b)?];
     let labels = rule_star::star(&rule_star::ends(bytes)?, areas)?;
@@ -185,7 +180,7 @@ fn write_report(call: &PlanCall) -> PlanOutcome {
         .and_then(|offset| bytes.get_mut(offset..))
         .and_then(|part| part.get_mut(..REPORT_BYTES));
     let Some(room) = from_offset else {
-        return refused(call, REFUSED + NO_ROOM);
+        return refused(call, NO_ROOM);
     };
     room.copy_from_slice(&report(&call.cells()));
     PlanOutcome {

@@ -3,15 +3,14 @@
 //!
 //! Nothing here is clever: a bundle is looked through once for each question, a star is sorted and cut into bundles.
 
-use crate::rule::BAD_CODE;
+use crate::rule::{BAD_CODE, refusal};
 use std::cmp::Ordering;
 
-/// Refusals are 256 times document 01's number.
-pub const WRONG_LENGTH: u32 = 256 * 4;
-pub const TOO_MANY_ENDS: u32 = 256 * 5;
-pub const BAD_LABEL: u32 = 256 * 7;
-pub const BAD_DIRECTION: u32 = 256 * 8;
-pub const SINGLE_SIDE: u32 = 256 * 9;
+pub const WRONG_LENGTH: u32 = refusal(4);
+pub const TOO_MANY_ENDS: u32 = refusal(5);
+pub const BAD_LABEL: u32 = refusal(7);
+pub const BAD_DIRECTION: u32 = refusal(8);
+pub const SINGLE_SIDE: u32 = refusal(9);
 
 pub const MOST_ENDS: usize = 32;
 pub const END_BYTES: usize = 15;
@@ -110,8 +109,8 @@ impl End {
     }
 }
 
-/// Ends that follow each other, all of them good, or the first refusal.
-pub fn ends(bytes: &[u8]) -> Result<Vec<End>, u32> {
+/// "check count .. as a record does": whole ends, 32 of them at most.
+pub fn whole_ends(bytes: &[u8]) -> Result<&[[u8; END_BYTES]], u32> {
     let (whole, rest) = bytes.as_chunks::<END_BYTES>();
     if !rest.is_empty() {
         return Err(WRONG_LENGTH);
@@ -119,7 +118,12 @@ pub fn ends(bytes: &[u8]) -> Result<Vec<End>, u32> {
     if whole.len() > MOST_ENDS {
         return Err(TOO_MANY_ENDS);
     }
-    whole.iter().map(End::from_bytes).collect()
+    Ok(whole)
+}
+
+/// Ends that follow each other, all of them good, or the first refusal.
+pub fn ends(bytes: &[u8]) -> Result<Vec<End>, u32> {
+    whole_ends(bytes)?.iter().map(End::from_bytes).collect()
 }
 
 /// "It is an area bundle if any end's label is."

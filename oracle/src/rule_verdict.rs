@@ -4,14 +4,12 @@
 //! still come is every matrix with all cells at least as large.
 
 use crate::pieces::{MATRICES, matrix_by_number, number_of_matrix};
-use crate::rule::{self, BAD_BYTE, NOT_NINE};
+use crate::rule::{self, BAD_BYTE, NO_SUCH_ROW, NOT_NINE};
 use std::sync::OnceLock;
 
 pub const NO_FOR_GOOD: u32 = 0;
 pub const YES_FOR_GOOD: u32 = 1;
 pub const OPEN: u32 = 2;
-/// Document 01 names eleven predicates; the C interface says this for any other number.
-pub const NO_PREDICATE: u32 = 3;
 
 /// The answers of all matrices that can still come.
 #[derive(Clone, Copy)]
@@ -60,7 +58,7 @@ impl Bits {
 
 pub fn predicate(cells: &[u8; 9], which: u32) -> u32 {
     if which >= 11 {
-        return NO_PREDICATE;
+        return NO_SUCH_ROW;
     }
     static TABLE: OnceLock<Vec<Bits>> = OnceLock::new();
     let table = TABLE.get_or_init(every_matrix);

@@ -1,6 +1,7 @@
 //! A sample of the crate's answers as lines of text, for a small program that replays them without Rust.
 //!
-//! Our library isn't asked. Numbers and places of refusals are document 01's, since the crate has none.
+//! Our library isn't asked. Numbers and places of refusals are document 01's, since the crate has none; where the crate
+//! can't be asked, document 01's rules alone answer, and the head of the file says so.
 
 use crate::asked::{self, Said};
 use crate::ours::{Call, Op};
@@ -10,40 +11,60 @@ use crate::pieces::{
 };
 use crate::random::Random;
 use crate::rule::{self, Outcome};
+use crate::sample_line::{self, Case};
 use crate::sample_plans;
 use crate::sample_verdicts;
-use std::fmt::Write;
 
 /// Never another one: the file must come out the same every time.
 const SEED: u64 = 1;
-/// The longest text that a line has room for.
+/// Of its own, so that the lines above don't hang on those below.
+const MORE_SEED: u64 = 5;
+/// The longest text that is asked with.
 const ROOM: usize = 12;
 
+/// Document 01's own matrices.
+const KNOWN: [&[u8; 9]; 12] = [
+    b"FFFFFFFF2",
+    b"FFFFFFFFF",
+    b"212101212",
+    b"0F1FF0102",
+    b"2FFF1FFF2",
+    b"FF2F01212",
+    b"212FF1FF2",
+    b"0FFFFF212",
+    b"F0FFFF212",
+    b"FF0FFF212",
+    b"0FFFFFFF2",
+    b"FF0FFF0F2",
+];
+
 const HEAD: &str = "\
-# Answers of geo 0.33.1's intersection_matrix.rs, compiled unchanged; our library was not asked.
-# The whole file is made again by:  sh oracle/samples.sh  (these lines, in the folder oracle: cargo run --release --bin sample)
-# A line of P, M, T, R, S or L is that letter and 36 bytes in hex: nine cells given (0, 1, 2, 3 for F, 0, 1, 2),
-# count of text bytes, the text (12 bytes, 00 after its end), the answer (2 bytes, high byte first), nine cells
-# after, three times 00.
-# P all eleven predicates: the answer has their bits. M matches: 1, 0 or a refusal. T text in, R raising from text:
-# 0 or a refusal. S set, L set_at_least: the text is position code in A, in B, dimension; 0 or a refusal.
-# A refusal is 256 times its number plus the bad byte's place; the crate has neither, so they are document 01's.
-# Document 01 alone answers what the crate can't be asked: S and L with a code above 3, S with a none. Where a raising
-# is refused the cells after are those given, by document 01; the crate keeps the cells already raised.
+# P misonkandi_predicates. Q misonkandi_predicate, a its row. H misonkandi_predicate_named, the name given.
+# M misonkandi_matches, the pattern given. T misonkandi_from_text, R misonkandi_raise_from_text, the text given.
+# O misonkandi_to_text. X misonkandi_transpose. S misonkandi_set, L misonkandi_set_at_least, a and b the position codes.
+# P to L: the answers of geo 0.33.1's intersection_matrix.rs, compiled unchanged. Document 01's rules (oracle/src/rule.rs)
+# alone answer what the crate can't be asked: X, H, a row above 10, bytes that aren't UTF-8, S with a none, codes above 3;
+# and where a raising is refused the cells after are those given, where the crate keeps the cells already raised.
 ";
 
 pub fn main() {
     asked::hush_the_crate();
     let mut random = Random::new(SEED);
-    let mut lines = format!("{HEAD}{}", sample_plans::HEAD);
+    let mut lines = format!("{}{HEAD}", sample_line::HEAD);
     for call in calls(&mut random) {
         write_line(&mut lines, &call);
     }
-    sample_plans::write_lines(&mut lines, &mut random);
+    let mut plans = sample_plans::calls(&mut random);
+    for call in more_calls(&mut Random::new(MORE_SEED)) {
+        write_line(&mut lines, &call);
+    }
     lines.push_str(sample_verdicts::HEAD);
     for call in sample_verdicts::calls() {
         write_line(&mut lines, &call);
     }
+    lines.push_str(sample_plans::HEAD);
+    plans.extend(sample_plans::more_calls());
+    sample_plans::write_lines(&mut lines, &plans);
     print!("{lines}");
 }
 
@@ -64,21 +85,7 @@ fn by_letters(letters: &[u8; 9]) -> [u8; 9] {
 
 /// Document 01's own matrices, then random ones, every second of them with many F so that each predicate holds often.
 fn predicates(random: &mut Random) -> Vec<Call> {
-    let known = [
-        b"FFFFFFFF2",
-        b"FFFFFFFFF",
-        b"212101212",
-        b"0F1FF0102",
-        b"2FFF1FFF2",
-        b"FF2F01212",
-        b"212FF1FF2",
-        b"0FFFFF212",
-        b"F0FFFF212",
-        b"FF0FFF212",
-        b"0FFFFFFF2",
-        b"FF0FFF0F2",
-    ];
-    let mut matrices: Vec<_> = known.into_iter().map(by_letters).collect();
+    let mut matrices = KNOWN.map(by_letters).to_vec();
     for number in 0..640 {
         let mut cells = random.cells();
         if number % 2 == 0 {
@@ -201,63 +208,189 @@ fn changes(random: &mut Random, op: Op) -> Vec<Call> {
     calls
 }
 
-/// The crate's answer with document 01's number and place, or None if it isn't fit for the sample: bytes that aren't
-/// UTF-8 can't be asked of the crate.
-fn answer(call: &Call) -> Option<Outcome> {
-    let due = rule::outcome(call);
-    match asked::said(call) {
-        Some(said) => {
-            assert!(
-                agrees(call, &due, &said),
-                "the crate and document 01 differ: {call:?}"
-            );
-            Some(due)
-        }
-        None => matches!(call.op, Op::Set | Op::SetAtLeast | Op::Verdict).then_some(due),
+/// Calls that the lines above have too few of, or none.
+fn more_calls(random: &mut Random) -> Vec<Call> {
+    let mut calls = rows(random);
+    calls.extend(names(random));
+    for op in [Op::Predicates, Op::ToText, Op::Transpose] {
+        let known = KNOWN.map(by_letters).into_iter();
+        let several = (0..60).map(|_| random.cells());
+        let mut matrices: Vec<_> = known.chain(several).collect();
+        matrices.extend((0..30).map(|_| random.cells_above_3()));
+        calls.extend(matrices.into_iter().map(|cells| Call::plain(op, cells)));
     }
+    calls.extend(above_3(random));
+    calls.extend(not_utf_8(random));
+    calls
+}
+
+/// Each predicate on its own, yes and no; then rows that there aren't.
+fn rows(random: &mut Random) -> Vec<Call> {
+    let mut calls = Vec::new();
+    for which in 0..11 {
+        let mut kept = [0; 2];
+        while kept != [15, 15] {
+            let mut cells = random.cells();
+            let many_f = random.next() | random.pick(&[0, !0]);
+            for (place, cell) in cells.iter_mut().enumerate() {
+                *cell *= (many_f >> place & 1) as u8;
+            }
+            let call = Call::predicate(cells, which);
+            let answer = rule::outcome(&call).word as usize;
+            if kept[answer] < 15 {
+                kept[answer] += 1;
+                calls.push(call);
+            }
+        }
+        calls.push(Call::predicate(random.cells_above_3(), which));
+    }
+    let none = [
+        11,
+        12,
+        13,
+        16,
+        27,
+        128,
+        255,
+        256,
+        261,
+        65_536,
+        65_541,
+        1 << 31,
+        (1 << 31) + 5,
+        u32::MAX - 11,
+        u32::MAX,
+    ];
+    for which in none {
+        calls.push(Call::predicate(random.cells(), which));
+        calls.push(Call::verdict(random.cells(), which));
+    }
+    calls
+}
+
+/// Each name, and texts near it: shorter, longer, with a capital, with another byte.
+fn names(random: &mut Random) -> Vec<Call> {
+    let mut texts: Vec<Vec<u8>> = vec![
+        Vec::new(),
+        b"relate".to_vec(),
+        b"is_within".to_vec(),
+        b"equals".to_vec(),
+    ];
+    for name in rule::NAMES {
+        let name = name.as_bytes();
+        texts.push(name.to_vec());
+        texts.push(name[1..].to_vec());
+        texts.push(name[..name.len() - 1].to_vec());
+        texts.push([name, b"\0"].concat());
+        texts.push([name, b"s"].concat());
+        texts.push([b" ", name].concat());
+        texts.push(name.to_ascii_uppercase());
+        for place in [0, random.below(name.len()), name.len() - 1] {
+            let mut text = name.to_vec();
+            text[place] ^= random.pick(&[1, 32, 128]);
+            texts.push(text);
+        }
+    }
+    texts.iter().map(|text| Call::named(text)).collect()
+}
+
+/// Numbers above 3 in the cells, accepted and refused.
+fn above_3(random: &mut Random) -> Vec<Call> {
+    let mut calls = Vec::new();
+    for _ in 0..20 {
+        let cells = random.cells_above_3();
+        let read = rule::read(&cells);
+        calls.push(Call::with_text(
+            Op::Matches,
+            cells,
+            &agreeing_pattern(random, &read),
+        ));
+        calls.push(Call::with_text(Op::Matches, cells, &good_pattern(random)));
+        calls.push(Call::with_text(Op::Raise, cells, &good_text(random)));
+        let mut bad = good_text(random);
+        bad[random.below(9)] = b'T';
+        calls.push(Call::with_text(Op::Raise, cells, &bad));
+        calls.push(Call::with_text(Op::FromText, cells, &bad));
+        for op in [Op::Set, Op::SetAtLeast] {
+            let (a, b) = (random.below(5) as u32, random.below(5) as u32);
+            calls.push(Call::at(op, cells, a, b, random.byte()));
+        }
+    }
+    calls
+}
+
+/// A byte of 128 and up at each place, alone.
+fn not_utf_8(random: &mut Random) -> Vec<Call> {
+    let mut calls = Vec::new();
+    for place in 0..9 {
+        for bad in [128, 170, 191, 255] {
+            let cells = random.cells();
+            for op in [Op::Matches, Op::VerdictPattern, Op::FromText, Op::Raise] {
+                let mut text = good_text(random);
+                if op == Op::Matches && random.below(2) == 0 {
+                    text = agreeing_pattern(random, &cells);
+                }
+                text[place] = bad;
+                calls.push(Call::with_text(op, cells, &text));
+            }
+        }
+    }
+    calls
+}
+
+/// Document 01's answer, which the crate's must agree with if it can be asked.
+fn answer(call: &Call) -> Outcome {
+    let due = rule::outcome(call);
+    if let Some(said) = asked::said(call) {
+        assert!(
+            agrees(call, &due, &said),
+            "the crate and document 01 differ: {call:?}"
+        );
+    }
+    due
 }
 
 /// A refused raising is the one case whose cells afterwards differ.
 fn agrees(call: &Call, due: &Outcome, said: &Said) -> bool {
     let refused_raising = call.op == Op::Raise && rule::refuses(due.word);
-    let same_cells = said.nine.is_none_or(|nine| nine == rule::read(&due.nine));
-    said.answer.agrees_with(due.word) && (same_cells || refused_raising)
+    let due_nine = if call.op == Op::ToText {
+        due.nine
+    } else {
+        rule::read(&due.nine)
+    };
+    let same_nine = said.nine.is_none_or(|nine| nine == due_nine);
+    said.answer.agrees_with(due.word) && (same_nine || refused_raising)
 }
 
-fn letter(op: Op) -> char {
+/// The letter of a call, and whether it may write nine bytes.
+fn letter(op: Op) -> (char, bool) {
     match op {
-        Op::Predicates => 'P',
-        Op::Matches => 'M',
-        Op::FromText => 'T',
-        Op::Raise => 'R',
-        Op::Set => 'S',
-        Op::SetAtLeast => 'L',
-        Op::Verdict => 'V',
-        Op::VerdictPattern => 'W',
-        Op::Predicate | Op::ToText | Op::Transpose => unreachable!("not in the sample"),
+        Op::Predicates => ('P', false),
+        Op::Predicate => ('Q', false),
+        Op::PredicateNamed => ('H', false),
+        Op::Matches => ('M', false),
+        Op::FromText => ('T', true),
+        Op::Raise => ('R', true),
+        Op::ToText => ('O', true),
+        Op::Set => ('S', true),
+        Op::SetAtLeast => ('L', true),
+        Op::Transpose => ('X', true),
+        Op::Verdict => ('V', false),
+        Op::VerdictPattern => ('W', false),
     }
 }
 
 fn write_line(lines: &mut String, call: &Call) {
-    let Some(due) = answer(call) else {
-        return;
+    let due = answer(call);
+    let (letter, writes) = letter(call.op);
+    let case = Case {
+        cells: call.cells,
+        word: due.word,
+        a: call.a,
+        b: call.b,
+        dimension: call.dimension,
+        given: call.text(),
+        due: if writes { &due.nine } else { &[] },
     };
-    let mut record = Vec::with_capacity(36);
-    record.extend(call.cells);
-    let text = match call.op {
-        Op::Set | Op::SetAtLeast => vec![call.a as u8, call.b as u8, call.dimension],
-        Op::Verdict => vec![call.a as u8],
-        _ => call.text().to_vec(),
-    };
-    record.push(text.len() as u8);
-    record.extend(&text);
-    record.resize(10 + ROOM, 0);
-    record.extend((due.word as u16).to_be_bytes());
-    record.extend(due.nine);
-    record.extend([0; 3]);
-    lines.push(letter(call.op));
-    for byte in record {
-        write!(lines, "{byte:02x}").expect("a string can be written");
-    }
-    lines.push('\n');
+    case.write(lines, letter);
 }

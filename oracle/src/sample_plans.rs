@@ -1,49 +1,65 @@
-//! The sample's lines of plan records and stars.
+//! The sample's lines of bundles, stars, plan records and stored reports.
 
 use crate::asked_star::{self, PlanSaid};
 use crate::ours::plans::{PlanCall, PlanOp};
 use crate::plan_pieces::{
-    damage_ends, damaged_record, edge_record, end, ends, node_record, with_bytes_after,
+    damage_ends, damaged_record, edge_record, end, ends, node_record, record, with_bytes_after,
 };
 use crate::random::Random;
-use crate::rule_plan::{self, PlanOutcome};
-use crate::rule_star::END_BYTES;
-use std::fmt::Write;
+use crate::rule;
+use crate::rule_plan::{self, PlanOutcome, REACHABLE, report};
+use crate::rule_star::SINGLE_SIDE;
+use crate::sample_line::{Case, MOST_GIVEN};
 
-/// The most bytes of a record, and the most ends of a star, that a line has room for.
-const RECORD_ROOM: usize = 64;
-const STAR_ENDS: usize = 4;
+/// The most bytes of the small records, and the most ends of the small stars.
+const SMALL_RECORD: usize = 64;
+const SMALL_STAR: usize = 4;
+/// Of the whole ones, so that the small ones don't hang on them.
+const SEED: u64 = 7;
 
 pub const HEAD: &str = "\
-# N a plan record, the letter and 88 bytes in hex: count of its bytes (2), nine cells given, the bytes (64, 00 after
-# the count), the answer (4), nine cells after. The answer is the bytes used, or 80000000 plus a refusal; the cells
-# after a refusal are those given. A cell given above 3 is read as 3.
-# K a star, the letter and 95 bytes in hex: number of ends, the ends (60, 15 each, 00 after the last), area code A, B,
-# the answer (4), the completed labels (28, 7 each, 00 after the last). The answer is the number of labels, or a
-# refusal; then the labels are 00. Numbers of several bytes have their high byte first.
-# In N and K joining, completing and raising are the crate's edge_end_bundle.rs, edge_end_bundle_star.rs, label.rs,
+# B misonkandi_bundle, K misonkandi_star, the ends given, a and b the area codes; what they may write holds nines before.
+# N misonkandi_record, the record given. D misonkandi_read_report, the report given. E misonkandi_write_report, the buffer
+# given, the offset a times 2^32 plus b.
+# B, K, N: joining, completing and raising are the crate's edge_end_bundle.rs, edge_end_bundle_star.rs, label.rs,
 # topology_position.rs and intersection_matrix.rs, compiled unchanged; its panic is refusal 9. Document 01 alone gives
-# the reading of bytes, the other refusals, the direction order, the parity of boundary counts, and which cells one
-# label and a node raise.
+# the reading of bytes, the other refusals, the direction order, the parity of boundary counts, and which cells one label
+# and a node raise. D, E: document 01 alone (oracle/src/rule_plan.rs); the crate has no reports.
 ";
 
-/// About 900 records and 600 stars.
-pub fn write_lines(lines: &mut String, random: &mut Random) {
-    for bytes in records(random) {
-        let cells = if random.below(20) == 0 {
-            random.cells_above_3()
-        } else {
-            random.cells()
-        };
-        write_record(lines, &PlanCall::on_cells(PlanOp::Record, cells, bytes));
+/// About 900 records and 600 stars of few ends.
+pub fn calls(random: &mut Random) -> Vec<PlanCall> {
+    let mut calls = Vec::new();
+    for bytes in small_records(random) {
+        calls.push(on_some_cells(random, bytes));
     }
-    for call in stars(random) {
-        write_star(lines, &call);
-    }
+    calls.extend(small_stars(random));
+    calls
+}
+
+/// Whole records and stars, up to 32 ends and beyond; bundles; reports.
+pub fn more_calls() -> Vec<PlanCall> {
+    let random = &mut Random::new(SEED);
+    let mut calls = whole_records(random);
+    calls.extend(whole_stars(random));
+    calls.extend(bundles(random));
+    calls.extend(reports_read(random));
+    calls.extend(reports_written(random));
+    calls
+}
+
+/// Cells of 0 to 3, and now and then above.
+fn on_some_cells(random: &mut Random, bytes: Vec<u8>) -> PlanCall {
+    let cells = if random.below(20) == 0 {
+        random.cells_above_3()
+    } else {
+        random.cells()
+    };
+    PlanCall::on_cells(PlanOp::Record, cells, bytes)
 }
 
 /// Good ones of both kinds, some with bytes after them; one record cut at every byte; damaged ones.
-fn records(random: &mut Random) -> Vec<Vec<u8>> {
+fn small_records(random: &mut Random) -> Vec<Vec<u8>> {
     let mut records = Vec::new();
     for _ in 0..90 {
         records.push(edge_record(random));
@@ -54,46 +70,42 @@ fn records(random: &mut Random) -> Vec<Vec<u8>> {
     }
     for place in (0..records.len()).step_by(7) {
         records[place] = with_bytes_after(random, records[place].clone());
-        records[place].truncate(RECORD_ROOM);
+        records[place].truncate(SMALL_RECORD);
     }
     let two = ends(random, 2);
     let whole = node_record(random, &two);
     records.extend((0..whole.len()).map(|count| whole[..count].to_vec()));
     while records.len() < 900 {
         let bytes = damaged_record(random);
-        if bytes.len() <= RECORD_ROOM {
+        if bytes.len() <= SMALL_RECORD {
             records.push(bytes);
         }
     }
     records
 }
 
-/// The star of document 01's P1.
-fn p1() -> PlanCall {
+/// The ends of document 01's P1.
+fn p1_ends() -> Vec<u8> {
     let ends = [
         end((2, 0), &[1, 0, 0, 0, 2, 1, 3]),
         end((0, 2), &[1, 2, 1, 3, 0, 0, 0]),
         end((-2, 0), &[1, 0, 0, 0, 2, 3, 1]),
         end((0, -2), &[1, 2, 3, 1, 0, 0, 0]),
     ];
-    PlanCall::star(ends.concat(), 2, 2)
+    ends.concat()
 }
 
 /// Each number of ends, in bundles of their own and in shared ones; ends with a fault; an area code above 3.
-fn stars(random: &mut Random) -> Vec<PlanCall> {
-    let mut calls = vec![p1()];
-    let mut call = |random: &mut Random, ends: Vec<u8>| {
-        let (a, b) = (random.below(4) as u32, random.below(4) as u32);
-        calls.push(PlanCall::star(ends, a, b));
-    };
+fn small_stars(random: &mut Random) -> Vec<PlanCall> {
+    let mut calls = vec![PlanCall::star(p1_ends(), 2, 2)];
     for number in 0..500 {
-        let ends = ends(random, number % (STAR_ENDS + 1));
-        call(random, ends);
+        let ends = ends(random, number % (SMALL_STAR + 1));
+        calls.push(star(random, ends));
     }
     for number in 0..80 {
-        let mut ends = ends(random, 1 + number % STAR_ENDS);
+        let mut ends = ends(random, 1 + number % SMALL_STAR);
         damage_ends(random, &mut ends);
-        call(random, ends);
+        calls.push(star(random, ends));
     }
     for bad in [4, 5, 255] {
         for good in [0, 1, 4] {
@@ -105,46 +117,216 @@ fn stars(random: &mut Random) -> Vec<PlanCall> {
     calls
 }
 
-/// Document 01's outcome, which the crate's files must agree with.
+/// A star with good area codes.
+fn star(random: &mut Random, ends: Vec<u8>) -> PlanCall {
+    let (a, b) = (random.below(4) as u32, random.below(4) as u32);
+    PlanCall::star(ends, a, b)
+}
+
+/// P1; each number of ends up to 32, 33 and 34; one record cut at every byte; damaged ones.
+fn whole_records(random: &mut Random) -> Vec<PlanCall> {
+    let p1 = [&[2, 2, 2, 2, 4][..], &p1_ends()].concat();
+    let start = [0, 0, 0, 0, 0, 0, 0, 0, 3];
+    let mut calls = vec![PlanCall::on_cells(PlanOp::Record, start, record(1, &p1))];
+    let mut records = Vec::new();
+    for count in 4..=34 {
+        for _ in 0..4 {
+            let ends = ends(random, count);
+            records.push(node_record(random, &ends));
+        }
+        let ends = ends(random, count);
+        let bytes = node_record(random, &ends);
+        records.push(with_bytes_after(random, bytes));
+    }
+    let four = ends(random, 4);
+    let whole = node_record(random, &four);
+    records.extend((0..whole.len()).map(|count| whole[..count].to_vec()));
+    let mut damaged = 0;
+    while damaged < 200 {
+        let bytes = damaged_record(random);
+        if (SMALL_RECORD..=MOST_GIVEN).contains(&bytes.len()) {
+            records.push(bytes);
+            damaged += 1;
+        }
+    }
+    for bytes in records {
+        calls.push(on_some_cells(random, bytes));
+    }
+    calls
+}
+
+/// Each number of ends up to 34; ends with a fault; area codes above 3 beside other faults, so that their order shows;
+/// bytes that are no whole ends.
+fn whole_stars(random: &mut Random) -> Vec<PlanCall> {
+    let mut calls = Vec::new();
+    for count in 5..=34 {
+        for _ in 0..3 {
+            let ends = ends(random, count);
+            calls.push(star(random, ends));
+        }
+        let mut ends = ends(random, count);
+        damage_ends(random, &mut ends);
+        calls.push(star(random, ends));
+    }
+    for bad in [4, 255, 256, 258, 65_539, u32::MAX] {
+        for other in [0, 3, 7] {
+            let count = random.pick(&[0, 2, 3, 33]);
+            let mut ends = ends(random, count);
+            damage_ends(random, &mut ends);
+            calls.push(PlanCall::star(ends.clone(), bad, other));
+            calls.push(PlanCall::star(ends.clone(), other, bad));
+            ends.push(7);
+            calls.push(PlanCall::star(ends, bad, other));
+        }
+    }
+    for _ in 0..20 {
+        let ends = no_whole_ends(random);
+        calls.push(star(random, ends));
+    }
+    calls
+}
+
+fn no_whole_ends(random: &mut Random) -> Vec<u8> {
+    let count = random.below(4);
+    let mut ends = ends(random, count);
+    let more = 1 + random.below(14);
+    ends.extend((0..more).map(|_| random.byte()));
+    ends
+}
+
+/// P14; each number of ends up to 34; ends with a fault; bytes that are no whole ends.
+fn bundles(random: &mut Random) -> Vec<PlanCall> {
+    let on_boundary = |count: usize| end((1, 0), &[0, 2, 0, 0, 2, 0, 0]).repeat(count);
+    let mut calls = vec![
+        PlanCall::bundle(on_boundary(2)),
+        PlanCall::bundle(on_boundary(3)),
+    ];
+    for count in 0..=34 {
+        for _ in 0..5 {
+            calls.push(PlanCall::bundle(ends(random, count)));
+        }
+        let mut ends = ends(random, count);
+        damage_ends(random, &mut ends);
+        calls.push(PlanCall::bundle(ends));
+    }
+    for _ in 0..100 {
+        let count = 1 + random.below(4);
+        calls.push(PlanCall::bundle(ends(random, count)));
+    }
+    for _ in 0..20 {
+        calls.push(PlanCall::bundle(no_whole_ends(random)));
+    }
+    calls
+}
+
+/// Good ones, some with bytes after them; one cut at every byte; each byte with a fault, and two faults.
+fn reports_read(random: &mut Random) -> Vec<PlanCall> {
+    let mut reports = Vec::new();
+    for number in 0..60 {
+        let mut bytes = report(&random.cells()).to_vec();
+        if number % 2 == 0 {
+            bytes = with_bytes_after(random, bytes);
+        }
+        reports.push(bytes);
+    }
+    let whole = report(&random.cells());
+    reports.extend((0..whole.len()).map(|count| whole[..count].to_vec()));
+    let faults = [0, 1, 2, 9, 10, 11, b'F', b'f', b'T', b'3', b'*', 200];
+    for place in 0..12 {
+        for fault in faults {
+            let mut bytes = report(&random.cells()).to_vec();
+            bytes[place] = fault;
+            if random.below(4) == 0 {
+                bytes.resize(300, b'F');
+            }
+            reports.push(bytes.clone());
+            let other = random.below(12);
+            bytes[other] = random.pick(&faults);
+            reports.push(bytes);
+        }
+    }
+    let call = |bytes| PlanCall::on_cells(PlanOp::ReadReport, random.nine_bytes(), bytes);
+    reports.into_iter().map(call).collect()
+}
+
+/// Every offset in and around small buffers, and some near large numbers.
+fn reports_written(random: &mut Random) -> Vec<PlanCall> {
+    let mut calls = Vec::new();
+    for count in [0, 1, 11, 12, 13, 20, 40] {
+        let near = 0..=count as u64 + 2;
+        let far = [
+            1 << 31,
+            1 << 32,
+            (1 << 32) + 1,
+            1 << 63,
+            u64::MAX - 12,
+            u64::MAX - 11,
+            u64::MAX,
+        ];
+        for offset in near.chain(far) {
+            let cells = if random.below(4) == 0 {
+                random.cells_above_3()
+            } else {
+                random.cells()
+            };
+            let buffer = (0..count).map(|_| random.byte()).collect();
+            calls.push(PlanCall::write_report(cells, buffer, offset));
+        }
+    }
+    calls
+}
+
+/// Document 01's outcome, which the crate's files must agree with if they can be asked.
 fn outcome(call: &PlanCall) -> PlanOutcome {
     let due = rule_plan::outcome(call);
     let agrees = match asked_star::said(call) {
         Some(PlanSaid::Gave { word, out }) => word == due.word && out == due.out,
-        Some(PlanSaid::Panicked) => rule_plan::refusal(call.op, due.word) == Some(9),
-        None => false,
+        Some(PlanSaid::Panicked) => due.word == SINGLE_SIDE,
+        None => matches!(call.op, PlanOp::ReadReport | PlanOp::WriteReport),
     };
     assert!(agrees, "the crate and document 01 differ: {call:?}");
     due
 }
 
-fn write_record(lines: &mut String, call: &PlanCall) {
-    let due = outcome(call);
-    let mut record = (call.bytes.len() as u16).to_be_bytes().to_vec();
-    record.extend(&call.out);
-    record.extend(&call.bytes);
-    record.resize(2 + 9 + RECORD_ROOM, 0);
-    record.extend(due.word.to_be_bytes());
-    record.extend(&due.out);
-    write_line(lines, 'N', &record);
-}
-
-fn write_star(lines: &mut String, call: &PlanCall) {
-    let due = outcome(call);
-    let refused = rule_plan::refusal(call.op, due.word).is_some();
-    let mut record = vec![(call.bytes.len() / END_BYTES) as u8];
-    record.extend(&call.bytes);
-    record.resize(1 + STAR_ENDS * END_BYTES, 0);
-    record.extend([call.a as u8, call.b as u8]);
-    record.extend(due.word.to_be_bytes());
-    let labels = if refused { &[0; 28] } else { &due.out[..28] };
-    record.extend(labels);
-    write_line(lines, 'K', &record);
-}
-
-fn write_line(lines: &mut String, letter: char, record: &[u8]) {
-    lines.push(letter);
-    for byte in record {
-        write!(lines, "{byte:02x}").expect("a string can be written");
+fn letter(op: PlanOp) -> char {
+    match op {
+        PlanOp::Bundle => 'B',
+        PlanOp::Star => 'K',
+        PlanOp::Record => 'N',
+        PlanOp::ReadReport => 'D',
+        PlanOp::WriteReport => 'E',
     }
-    lines.push('\n');
+}
+
+/// Writes the lines, which must have each number that each call can give.
+pub fn write_lines(lines: &mut String, calls: &[PlanCall]) {
+    let mut met = Vec::new();
+    for call in calls {
+        let due = outcome(call);
+        met.extend(rule::number(due.word).map(|number| (call.op, number)));
+        write_line(lines, call, &due);
+    }
+    for (op, numbers) in REACHABLE {
+        let all = numbers.iter().all(|number| met.contains(&(op, *number)));
+        assert!(all, "{}: a refusal isn't in the sample", op.name());
+    }
+}
+
+fn write_line(lines: &mut String, call: &PlanCall, due: &PlanOutcome) {
+    let on_cells = !matches!(call.op, PlanOp::Bundle | PlanOp::Star);
+    let writes = call.op == PlanOp::WriteReport;
+    let case = Case {
+        cells: if on_cells { call.cells() } else { [0; 9] },
+        word: due.word,
+        a: if writes {
+            (call.offset >> 32) as u32
+        } else {
+            call.a
+        },
+        b: if writes { call.offset as u32 } else { call.b },
+        given: &call.bytes,
+        due: if writes { &due.bytes } else { &due.out },
+        ..Case::default()
+    };
+    case.write(lines, letter(call.op));
 }

@@ -20,10 +20,8 @@ const DRAWN_PAIRS: usize = 4000;
 const KEPT_PAIRS: usize = 4;
 
 pub const HEAD: &str = "\
-# Verdicts, from the crate's answers to every matrix that is at least as large in all cells; our library was not asked.
-# V of a predicate, W of a pattern: a line as M's. V's text is one byte, the predicate's place in P's order. The answer is
-# 1 yes for good, 0 no for good, 2 open; V: 3 if there is no such predicate; W: or a refusal. A cell given above 3 is
-# read as 3. Document 01 alone gives the numbers and places of refusals, the C interface alone that 3.
+# V misonkandi_verdict, a the predicate's row. W misonkandi_verdict_pattern, the pattern given.
+# V and W: by the crate's answers to every matrix that is at least as large in all cells.
 ";
 
 pub fn calls() -> Vec<Call> {

@@ -16,9 +16,10 @@ use Rattle.de9im.specs.Matrix.{Matrix}
 use Rattle.de9im.specs.Cells.{cellsOf}
 use Rattle.de9im.specs.Patterns.{walk, atCell, matchesOf, agreeAll, isLetter, WhollyGood}
 use Rattle.de9im.proofs.LawsBool.{false-is-not-true}
+use Rattle.de9im.proofs.LawsApart.{impossible}
 
 no-is-not-yes : No ≡ Yes → ⊥
-no-is-not-yes e = let z : _≡_ {A = ℕ} 0 1 = cc in omega arith
+no-is-not-yes e = impossible (cc)
 
 -- yes or no
 abbrev pub verdictOf : Bool → Matched

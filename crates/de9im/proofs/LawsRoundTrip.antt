@@ -3,7 +3,6 @@ use Prim.Native.Nat.{ℕ, zero, suc}
 use mathlib.Core.Path.{_≡_, refl, sym, ap, _∙_}
 use mathlib.Core.Bool.{Bool, true, false, cond}
 use mathlib.Core.List.{List, [], _∷_, map}
-use native.Mathlib.Omega.{arith}
 use borrow.Author.Tests.{eqb-true}
 use lib.Dec.{eqb}
 use lib.ListN.{length, length-map}
@@ -13,7 +12,7 @@ use Rattle.de9im.specs.declared.refusal.Spot.{Spot}
 use Rattle.de9im.specs.declared.refusal.Spot.the-variants.{Nowhere, At}
 use Rattle.de9im.specs.declared.text.CellLetter.{CellLetter}
 use Rattle.de9im.specs.declared.text.CellLetter.the-variants.{Good, Bad}
-use Rattle.de9im.specs.declared.text.TextAnswer.{TextAnswer}
+use Rattle.de9im.specs.declared.answer.CellsAnswer.{CellsAnswer}
 use Rattle.de9im.specs.Dimension.{dimNo, dimOf}
 use Rattle.de9im.specs.Matrix.{Matrix}
 use Rattle.de9im.specs.Cells.{cellsOf, matrixOf}
@@ -33,9 +32,10 @@ use Rattle.de9im.specs.Text.{
 use Rattle.de9im.proofs.LawsForms.{nine-spelled}
 use Rattle.de9im.proofs.LawsText.{picked, never}
 use Rattle.de9im.proofs.LawsBool.{false-is-not-true}
+use Rattle.de9im.proofs.LawsApart.{impossible}
 
 at-is-somewhere : {k : ℕ} → At k ≡ Nowhere → ⊥
-at-is-somewhere e = let z : _≡_ {A = ℕ} 0 1 = cc in omega arith
+at-is-somewhere e = impossible (cc)
 
 -- a letter written is read as its dimension
 pub letter-back : (d : Dimensions) → cellLetterOf (byteOf (dimNo d)) ≡ Good d
@@ -61,7 +61,8 @@ letter-forth b =
     one-letter b 70 Empty _ refl
     (one-letter b 48 ZeroDimensional _ refl
     (one-letter b 49 OneDimensional _ refl
-    (one-letter b 50 TwoDimensional Bad refl (λ e. absurd (false-is-not-true e)) (eqb b 50) refl) (eqb b 49) refl) (eqb b 48) refl) (eqb b 70) refl
+    (one-letter b 50 TwoDimensional Bad refl (λ e. absurd (false-is-not-true e)) (eqb b 50) refl)
+    (eqb b 49) refl) (eqb b 48) refl) (eqb b 70) refl
 
 one-forth : (b k : ℕ) (bs : List ℕ) (rest : Spot) (g : Bool) → goodByte b ≡ g → (rest ≡ Nowhere → map byteOf (numbersOf bs) ≡ bs)
     → cond g rest (At k) ≡ Nowhere → map byteOf (numbersOf (b ∷ bs)) ≡ b ∷ bs
@@ -86,9 +87,9 @@ text-of-cells ns e = simp byte-same (ap (map byteOf) (nine-spelled ns e))
 
 -- what an accepted text has
 accepted-parts : (b : Bool) (s : Spot) (x z ns : List ℕ) → picked b s x z ≡ accepted ns → (b ≡ true) × (s ≡ Nowhere) × (x ≡ ns)
-accepted-parts true Nowhere x z ns e = (refl, refl, ap (λ (a : TextAnswer). a .cells) e)
-accepted-parts true (At k) x z ns e = absurd (never (sym (ap (λ (a : TextAnswer). a .parsed) e)))
-accepted-parts false s x z ns e = absurd (never (sym (ap (λ (a : TextAnswer). a .parsed) e)))
+accepted-parts true Nowhere x z ns e = (refl, refl, ap (λ (a : CellsAnswer). a .cells) e)
+accepted-parts true (At k) x z ns e = absurd (never (sym (ap (λ (a : CellsAnswer). a .answer) e)))
+accepted-parts false s x z ns e = absurd (never (sym (ap (λ (a : CellsAnswer). a .answer) e)))
 
 pub written-read : (t ns : List ℕ) → readOf t ≡ accepted ns → textOf (matrixOf ns) ≡ t
 unfolding readOf

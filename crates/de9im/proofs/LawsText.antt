@@ -4,7 +4,6 @@ use mathlib.Core.Path.{_≡_, refl, sym, ap, _∙_}
 use mathlib.Core.Bool.{Bool, true, false, cond}
 use mathlib.Core.List.{List, [], _∷_, _++_, map}
 use native.Mathlib.Numerals.{add-one}
-use native.Mathlib.Omega.{arith}
 use borrow.Author.Tests.{eq-eqb}
 use lib.Dec.{eqb}
 use lib.ListN.{length, getD, take, drop, set, drop-of-length-le}
@@ -13,8 +12,8 @@ use Rattle.de9im.specs.declared.refusal.Spot.{Spot}
 use Rattle.de9im.specs.declared.refusal.Spot.the-variants.{Nowhere, At}
 use Rattle.de9im.specs.declared.refusal.Refusal.{Refusal}
 use Rattle.de9im.specs.declared.refusal.Refusal.the-variants.{NotNineBytes, BadByte}
-use Rattle.de9im.specs.declared.text.Parsed.the-variants as Parsed
-use Rattle.de9im.specs.declared.text.TextAnswer.{TextAnswer}
+use Rattle.de9im.specs.declared.answer.Checked.the-variants as Checked
+use Rattle.de9im.specs.declared.answer.CellsAnswer.{CellsAnswer}
 use Rattle.de9im.specs.Text.{
   firstBad,
   goodByte,
@@ -28,6 +27,7 @@ use Rattle.de9im.specs.Text.{
   raisedBy,
   raisedFrom,
 }
+use Rattle.de9im.proofs.LawsApart.{impossible}
 
 -- the first bad byte from place k on, of all bytes
 abbrev pub badFrom : (ℕ → Bool) → List ℕ → ℕ → Spot
@@ -74,43 +74,43 @@ module _ (t taken given : List ℕ) (nine : length t ≡ 9) where
   pub answered-bad : (k : ℕ) → badFrom goodByte t 0 ≡ At k → answered t taken given ≡ refused (BadByte k) given
   answered-bad k h = simp (eq-eqb _ _ nine, h)
 
-pub never : {r : Refusal} → Parsed.Accepted ≡ Parsed.Refused r → ⊥
-never e = let z : _≡_ {A = ℕ} 0 1 = cc in omega arith
+pub never : {r : Refusal} → Checked.Fine ≡ Checked.Refused r → ⊥
+never e = impossible (cc)
 
 -- the answer by a test and a place: what `answered` picks from
-abbrev pub picked : Bool → Spot → List ℕ → List ℕ → TextAnswer
+abbrev pub picked : Bool → Spot → List ℕ → List ℕ → CellsAnswer
 picked b s taken given = cond b (afterBad s taken given) (refused NotNineBytes given)
 
-refused-picked : (b : Bool) (s : Spot) (x z taken ns : List ℕ) (r : Refusal) → picked b s x z .parsed ≡ Parsed.Refused r
-    → record { parsed = picked b s x z .parsed; cells = ns } ≡ picked b s taken ns
+refused-picked : (b : Bool) (s : Spot) (x z taken ns : List ℕ) (r : Refusal) → picked b s x z .answer ≡ Checked.Refused r
+    → record { answer = picked b s x z .answer; cells = ns } ≡ picked b s taken ns
 refused-picked true Nowhere x z taken ns r e = absurd (never e)
 refused-picked true (At k) x z taken ns r e = refl
 refused-picked false s x z taken ns r e = refl
 
-accepted-picked : (b : Bool) (s : Spot) (x z ns : List ℕ) → picked b s x z .parsed ≡ Parsed.Accepted
+accepted-picked : (b : Bool) (s : Spot) (x z ns : List ℕ) → picked b s x z .answer ≡ Checked.Fine
     → accepted (raisedBy ns (picked b s x z .cells)) ≡ picked b s (raisedBy ns x) ns
 accepted-picked true Nowhere x z ns e = refl
 accepted-picked true (At k) x z ns e = absurd (never (sym e))
 accepted-picked false s x z ns e = absurd (never (sym e))
 
 -- raising goes by what reading the same text answers: a refusal is handed on with the given numbers
-pub raised-refused : (ns t : List ℕ) (r : Refusal) → readOf t .parsed ≡ Parsed.Refused r
-    → record { parsed = readOf t .parsed; cells = ns } ≡ raisedFrom ns t
+pub raised-refused : (ns t : List ℕ) (r : Refusal) → readOf t .answer ≡ Checked.Refused r
+    → record { answer = readOf t .answer; cells = ns } ≡ raisedFrom ns t
 unfolding readOf raisedFrom
 raised-refused ns t r e = refused-picked (eqb (length t) 9) (firstBad goodByte 0 t) (numbersOf t) nineZeros
     (raisedBy ns (numbersOf t)) ns r e
 
-pub raised-accepted : (ns t : List ℕ) → readOf t .parsed ≡ Parsed.Accepted → accepted (raisedBy ns (readOf t .cells)) ≡ raisedFrom ns t
+pub raised-accepted : (ns t : List ℕ) → readOf t .answer ≡ Checked.Fine → accepted (raisedBy ns (readOf t .cells)) ≡ raisedFrom ns t
 unfolding readOf raisedFrom
 raised-accepted ns t e = accepted-picked (eqb (length t) 9) (firstBad goodByte 0 t) (numbersOf t) nineZeros ns e
 
-kept-picked : (b : Bool) (s : Spot) (taken ns : List ℕ) (r : Refusal) → picked b s taken ns .parsed ≡ Parsed.Refused r
+kept-picked : (b : Bool) (s : Spot) (taken ns : List ℕ) (r : Refusal) → picked b s taken ns .answer ≡ Checked.Refused r
     → picked b s taken ns .cells ≡ ns
 kept-picked true Nowhere taken ns r e = absurd (never e)
 kept-picked true (At k) taken ns r e = refl
 kept-picked false s taken ns r e = refl
 
 -- a refused raising has the numbers that it was given
-pub raised-kept : (ns t : List ℕ) (r : Refusal) → raisedFrom ns t .parsed ≡ Parsed.Refused r → raisedFrom ns t .cells ≡ ns
+pub raised-kept : (ns t : List ℕ) (r : Refusal) → raisedFrom ns t .answer ≡ Checked.Refused r → raisedFrom ns t .cells ≡ ns
 unfolding raisedFrom
 raised-kept ns t r e = kept-picked (eqb (length t) 9) (firstBad goodByte 0 t) (raisedBy ns (numbersOf t)) ns r e

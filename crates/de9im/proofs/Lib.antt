@@ -1,4 +1,5 @@
 -- Facts about the definitions of specs/, each stated once.
+pub mod LawsApart
 pub mod LawsBool
 pub mod LawsDimension
 pub mod LawsPosition
@@ -9,4 +10,5 @@ pub mod LawsForms
 pub mod LawsMatches
 pub mod LawsText
 pub mod LawsRoundTrip
-pub mod LawsPredicates
+pub mod LawsNumbers
+pub mod LawsNear

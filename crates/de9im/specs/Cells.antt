@@ -20,7 +20,7 @@ cellsOf m =
     numberAt m B I ∷ numberAt m B B ∷ numberAt m B E ∷
     numberAt m E I ∷ numberAt m E B ∷ numberAt m E E ∷ []
 
--- three numbers from the k-th on, as a row
+-- the numbers at three places, as a row
 abbrev pub rowFrom : List ℕ → ℕ → ℕ → ℕ → List Dimensions
 rowFrom ns i j k = dimOf (getD ns i 0) ∷ dimOf (getD ns j 0) ∷ dimOf (getD ns k 0) ∷ []
 

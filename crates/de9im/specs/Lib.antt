@@ -8,5 +8,4 @@ pub mod Bytes
 pub mod Letters
 pub mod Patterns
 pub mod Text
-pub mod Predicates
-pub mod Names
+pub mod Answers

@@ -36,3 +36,8 @@ placeOf R.NotNineBytes = Nowhere
 placeOf (R.BadByte k) = At k
 placeOf R.NoRoom = Nowhere
 placeOf R.NotAPlace = Nowhere
+
+-- a place as a number, 0 where there is none
+abbrev pub spotNo : Spot → ℕ
+spotNo Nowhere = 0
+spotNo (At k) = k

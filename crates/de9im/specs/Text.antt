@@ -13,8 +13,8 @@ use Rattle.de9im.specs.declared.refusal.Spot.{Spot}
 use Rattle.de9im.specs.declared.refusal.Spot.the-variants.{Nowhere, At}
 use Rattle.de9im.specs.declared.text.CellLetter.{CellLetter}
 use Rattle.de9im.specs.declared.text.CellLetter.the-variants.{Good, Bad}
-use Rattle.de9im.specs.declared.text.Parsed.the-variants.{Accepted, Refused}
-use Rattle.de9im.specs.declared.text.TextAnswer.{TextAnswer}
+use Rattle.de9im.specs.declared.answer.Checked.the-variants.{Fine, Refused}
+use Rattle.de9im.specs.declared.answer.CellsAnswer.{CellsAnswer}
 use Rattle.de9im.specs.Dimension.{dimNo}
 use Rattle.de9im.specs.Matrix.{Matrix}
 use Rattle.de9im.specs.Cells.{cellsOf}
@@ -57,14 +57,14 @@ nine f = f 0 ∷ f 1 ∷ f 2 ∷ f 3 ∷ f 4 ∷ f 5 ∷ f 6 ∷ f 7 ∷ f 8 ∷
 abbrev pub nineZeros : List ℕ
 nineZeros = nine (λ k. 0)
 
-abbrev pub accepted : List ℕ → TextAnswer
-accepted ns = record { parsed = Accepted; cells = ns }
+abbrev pub accepted : List ℕ → CellsAnswer
+accepted ns = record { answer = Fine; cells = ns }
 
-abbrev pub refused : Refusal → List ℕ → TextAnswer
-refused r ns = record { parsed = Refused r; cells = ns }
+abbrev pub refused : Refusal → List ℕ → CellsAnswer
+refused r ns = record { answer = Refused r; cells = ns }
 
 -- nine bytes: accepted with `taken` unless one is bad; a refusal leaves `given`
-abbrev pub afterBad : Spot → List ℕ → List ℕ → TextAnswer
+abbrev pub afterBad : Spot → List ℕ → List ℕ → CellsAnswer
 afterBad Nowhere taken given = accepted taken
 afterBad (At k) taken given = refused (BadByte k) given
 
@@ -74,11 +74,11 @@ numbersOf t = map (λ b. letterNo (cellLetterOf b)) t
 abbrev pub goodByte : ℕ → Bool
 goodByte b = isGood (cellLetterOf b)
 
-abbrev pub answered : List ℕ → List ℕ → List ℕ → TextAnswer
+abbrev pub answered : List ℕ → List ℕ → List ℕ → CellsAnswer
 answered t taken given = cond (eqb (length t) 9) (afterBad (firstBad goodByte 0 t) taken given) (refused NotNineBytes given)
 
 -- reading: the letters' numbers, or no matrix
-unfoldable pub readOf : List ℕ → TextAnswer
+unfoldable pub readOf : List ℕ → CellsAnswer
 readOf t = answered t (numbersOf t) nineZeros
 
 -- each cell at least the number beside it
@@ -86,5 +86,5 @@ abbrev pub raisedBy : List ℕ → List ℕ → List ℕ
 raisedBy ns ls = nine (λ k. max (min (getD ns k 0) 3) (getD ls k 0))
 
 -- raising: all nine or none
-unfoldable pub raisedFrom : List ℕ → List ℕ → TextAnswer
+unfoldable pub raisedFrom : List ℕ → List ℕ → CellsAnswer
 raisedFrom ns t = answered t (raisedBy ns (numbersOf t)) ns

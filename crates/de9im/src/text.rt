@@ -1,4 +1,6 @@
 // A matrix as nine bytes of `F`, `0`, `1`, `2`: read, written, and raised from.
+use crate::answer::CellsAnswer;
+use crate::answer::Checked;
 use crate::cells::Cells;
 use crate::dimensions::Dimensions;
 use crate::dimensions::dimension;
@@ -14,17 +16,6 @@ ghost use Rattle.de9im.specs.Text.{byteOf, cellLetterOf, textOf, readOf,
 pub enum CellLetter {
     Good(Dimensions),
     Bad,
-}
-
-pub enum Parsed {
-    Accepted,
-    Refused(Refusal),
-}
-
-// The answer to a text, with the matrix beside it as nine flat numbers.
-pub struct TextAnswer {
-    pub parsed: Parsed,
-    pub cells: Cells,
 }
 
 // Four good letters; lower case is bad here, and so are 128 and up.
@@ -45,27 +36,27 @@ pub fn cell_letter(byte: u8) -> CellLetter
 }
 
 // Reads a text. A refused one answers no matrix: nine zeros stand beside the refusal.
-pub fn from_str(text: &[u8]) -> TextAnswer
+pub fn from_str(text: &[u8]) -> CellsAnswer
     ensures { λ r. ⌜ r ≡ readOf (now (text .entry)) ⌝ }
 {
     let mut cells = [0u8; 9];
     if text.len() != 9 {
-        return TextAnswer {
-            parsed: Parsed::Refused(Refusal::NotNineBytes),
+        return CellsAnswer {
+            answer: Checked::Refused(Refusal::NotNineBytes),
             cells,
         };
     }
     for k in 0..9usize {
         let CellLetter::Good(d) = cell_letter(text[k]) else {
-            return TextAnswer {
-                parsed: Parsed::Refused(Refusal::BadByte(k)),
+            return CellsAnswer {
+                answer: Checked::Refused(Refusal::BadByte(k)),
                 cells: [0u8; 9],
             };
         };
         cells[k] = number(d);
     }
-    TextAnswer {
-        parsed: Parsed::Accepted,
+    CellsAnswer {
+        answer: Checked::Fine,
         cells,
     }
 }
@@ -95,17 +86,17 @@ fn raised(cells: Cells, letters: Cells) -> Cells
 }
 
 // All or nothing: a refusal hands the given numbers back as they came, where the crate keeps cells already raised.
-pub fn set_at_least_from_string(cells: Cells, text: &[u8]) -> TextAnswer
+pub fn set_at_least_from_string(cells: Cells, text: &[u8]) -> CellsAnswer
     ensures { λ r. ⌜ r ≡ raisedFrom cells (now (text .entry)) ⌝ }
 {
     let read = from_str(text);
-    let parsed = read.parsed;
+    let answer = read.answer;
     let letters = read.cells;
-    let Parsed::Accepted = parsed else {
-        return TextAnswer { parsed, cells };
+    let Checked::Fine = answer else {
+        return CellsAnswer { answer, cells };
     };
-    TextAnswer {
-        parsed: Parsed::Accepted,
+    CellsAnswer {
+        answer: Checked::Fine,
         cells: raised(cells, letters),
     }
 }

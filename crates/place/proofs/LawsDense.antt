@@ -2,16 +2,16 @@
 use mathlib.Core.Path.{_≡_, refl}
 use mathlib.Core.Bool.{not}
 use mathlib.Core.Logic.{_⊎_, inl, inr}
-use Rattle.place.specs.Order.{Order, le}
+use Rattle.place.specs.Comparing.{Comparing, le}
 use Rattle.place.specs.Shapes.{Span}
 use Rattle.place.specs.Sets.{Below, AtMost, Strictly, Long, Level, Dense}
-use Rattle.place.proofs.LawsBool.{told, clash}
+use Rattle.de9im.proofs.LawsBool.{told, clash}
 
 -- a span of its ends
 abbrev pub span : {A : Type 0} → A → A → Span A
 span a b = record { lo = a; hi = b }
 
-module _ {A : Type 0} (o : Order A) (d : Dense o) where
+module _ {A : Type 0} (o : Comparing A) (d : Dense o) where
   pub at-self : (a : A) → AtMost o a a
   at-self a = told (o .lt a a) (λ h. d .one-way a a h) (λ h. h)
 

@@ -5,8 +5,8 @@ use Rattle.de9im.specs.declared.coordinate_position.CoordPos.the-variants.{Outs
 use Rattle.de9im.specs.declared.dimensions.Dimensions.the-variants.{TwoDimensional}
 use Rattle.de9im.specs.Matrix.{cellOf, transposedOf}
 use Rattle.de9im.specs.Text.{cellLetterOf}
-use Rattle.place.specs.Order.{Order, le}
-use Rattle.place.specs.Shapes.{Span, Spot, Shape, point, box}
+use Rattle.place.specs.Comparing.{Comparing, le}
+use Rattle.place.specs.Shapes.{Span, Coord, Shape, point, box}
 use Rattle.place.specs.Ranges.{inOpen, meet, overlap, onBoth, shareEnd, inside, insideOrOn, same}
 use Rattle.place.specs.Rules.{printed, boxBox, pointBox, pointPoint, related}
 
@@ -43,7 +43,7 @@ unfolding cellLetterOf
 points-ee true = refl
 points-ee false = refl
 
-module _ {A : Type 0} (o : Order A) where
+module _ {A : Type 0} (o : Comparing A) where
   pub ee-two : (p q : Shape A) → cellOf (related o p q) Outside Outside ≡ TwoDimensional
   unfolding related boxBox pointBox pointPoint
   ee-two (point p) (point q) = points-ee (same o p q)
@@ -63,7 +63,7 @@ module _ {A : Type 0} (o : Order A) where
         rw (eq-sym (t .lo) (s .lo), eq-sym (t .lo) (s .hi), eq-sym (t .hi) (s .lo), eq-sym (t .hi) (s .hi))
         (four (o .eq (s .lo) (t .lo)) (o .eq (s .lo) (t .hi)) (o .eq (s .hi) (t .lo)) (o .eq (s .hi) (t .hi)))
 
-    same-sym : (p q : Spot A) → same o q p ≡ same o p q
+    same-sym : (p q : Coord A) → same o q p ≡ same o p q
     same-sym p q = rw (eq-sym (q .x) (p .x), eq-sym (q .y) (p .y)) refl
 
     pub exchanged : (p q : Shape A) → related o q p ≡ transposedOf (related o p q)

@@ -7,7 +7,7 @@ use borrow.Author.Tests.{eq-eqb, ne-eqb, eqb-true, eqb-false, le-ltb}
 use lib.Dec.{eqb}
 use lib.Ieee.{Float, nan, inf, fin, up, down, level, lt, eq}
 use Rattle.place.specs.Places.{finite}
-use Rattle.place.proofs.LawsBool.{told, clash}
+use Rattle.de9im.proofs.LawsBool.{told, clash}
 
 eqb-sym : (a b : ℕ) → eqb a b ≡ eqb b a
 eqb-sym a b =

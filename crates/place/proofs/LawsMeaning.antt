@@ -9,13 +9,13 @@ use Rattle.de9im.specs.declared.dimensions.Dimensions.{Dimensions}
 use Rattle.de9im.specs.declared.dimensions.Dimensions.the-variants.{Empty, ZeroDimensional, OneDimensional, TwoDimensional}
 use Rattle.de9im.specs.Matrix.{Matrix, cellOf, transposedOf}
 use Rattle.de9im.specs.Text.{cellLetterOf}
-use Rattle.place.specs.Order.{Order, le}
-use Rattle.place.specs.Shapes.{Span, Spot, Area, Shape, point, box}
+use Rattle.place.specs.Comparing.{Comparing, le}
+use Rattle.place.specs.Shapes.{Span, Coord, Area, Shape, point, box}
 use Rattle.place.specs.Ranges.{overlap, onBoth, shareX, shareY, between, betweenOrOn, inside, insideOrOn, same}
 use Rattle.place.specs.Rules.{printed, within, apart, boxBox, pointBox, pointPoint, related}
-use Rattle.place.specs.Sets.{Strictly, Closed, InOpen, InClosed, Level, At, Part, Common, Wide, Proper, spot}
+use Rattle.place.specs.Sets.{Strictly, Closed, InOpen, InClosed, Level, At, Part, Common, Wide, Proper, coord}
 use Rattle.place.specs.Sets.{HasPoint, HasSide, across, upright, HasArea, OfDimension, Dense}
-use Rattle.place.proofs.LawsBool.{clash, both, all}
+use Rattle.de9im.proofs.LawsBool.{clash, both, all}
 use Rattle.place.proofs.LawsRules.{two-if, two-unless}
 use Rattle.place.proofs.LawsDense.{at-self, lt-le, le-lt, clear, beside, off-not, narrow}
 use Rattle.place.proofs.LawsRanges as ranges
@@ -35,12 +35,13 @@ transposed-cell m E I = refl
 transposed-cell m E B = refl
 transposed-cell m E E = refl
 
-module _ {A : Type 0} (o : Order A) (d : Dense o) where
+module _ {A : Type 0} (o : Comparing A) (d : Dense o) where
   -- the two shapes exchanged
   swapped : (p q : Shape A) (i j : CoordPos) (n : Dimensions) → OfDimension o (Common o q j p i) n → OfDimension o (Common o p i q j) n
   swapped p q i j n h = same-points o (Common o q j p i) (Common o p i q j) (λ v s. (s .1, s .0)) (λ v s. (s .1, s .0)) n h
 
-  -- two boxes
+  -- ---- two boxes
+
   module _ (a b : Area A) (wa : Wide o a) (wb : Wide o b) where
     overlap-swap : onBoth o (overlap o) b a ≡ onBoth o (overlap o) a b
     overlap-swap =
@@ -67,23 +68,24 @@ module _ {A : Type 0} (o : Order A) (d : Dense o) where
     boxes E B = swapped (box a) (box b) E B (cond (within o b a) Empty OneDimensional) (sets.be o d b a wb wa (within o b a) refl)
     boxes E E = sets.ee o d a b wa wb
 
+  -- ---- a point and a box
+
   -- a point's set has no side
-  point-thin : (p : Spot A) (S : Spot A → Type 0) → ((v : Spot A) → S v → At o v p) → HasSide o S → ⊥
+  point-thin : (p : Coord A) (S : Coord A → Type 0) → ((v : Coord A) → S v → At o v p) → HasSide o S → ⊥
   point-thin p S on (across s y l f) =
       let m = clear o d s (p .x) (p .x) (p .x) (p .x) l in
-      off-not o d (m .off-a) (on (spot (m .at) y) (f (m .at) (m .strictly)) .0)
+      off-not o d (m .off-a) (on (coord (m .at) y) (f (m .at) (m .strictly)) .0)
   point-thin p S on (upright x s l f) =
       let m = clear o d s (p .y) (p .y) (p .y) (p .y) l in
-      off-not o d (m .off-a) (on (spot x (m .at)) (f (m .at) (m .strictly)) .1)
+      off-not o d (m .off-a) (on (coord x (m .at)) (f (m .at) (m .strictly)) .1)
 
   level-self : (a : A) → Level o a a
   level-self a = (at-self o d a, at-self o d a)
 
-  at-itself : (p : Spot A) → At o p p
+  at-itself : (p : Coord A) → At o p p
   at-itself p = (level-self (p .x), level-self (p .y))
 
-  -- a point and a box
-  module _ (p : Spot A) (b : Area A) (wb : Wide o b) where
+  module _ (p : Coord A) (b : Area A) (wb : Wide o b) where
     inside-yes : inside o p b ≡ true → InOpen o p b
     inside-yes h =
         let k = both (between o (p .x) (b .xs)) (between o (p .y) (b .ys)) h in (
@@ -111,19 +113,19 @@ module _ {A : Type 0} (o : Order A) (d : Dense o) where
     strictly-at : {v u : A} {s : Span A} → Level o v u → Strictly o v s → Strictly o u s
     strictly-at l i = (lt-le o d (i .0) (l .0), le-lt o d (l .1) (i .1))
 
-    open-here : {v : Spot A} → At o v p → InOpen o v b → InOpen o p b
+    open-here : {v : Coord A} → At o v p → InOpen o v b → InOpen o p b
     open-here h i = (strictly-at (h .0) (i .0), strictly-at (h .1) (i .1))
 
-    open-there : {v : Spot A} → At o v p → InOpen o p b → InOpen o v b
+    open-there : {v : Coord A} → At o v p → InOpen o p b → InOpen o v b
     open-there h i = (strictly-at (h .0 .1, h .0 .0) (i .0), strictly-at (h .1 .1, h .1 .0) (i .1))
 
-    closed-here : {v : Spot A} → At o v p → InClosed o v b → InClosed o p b
+    closed-here : {v : Coord A} → At o v p → InClosed o v b → InClosed o p b
     closed-here h i = (closed-at (h .0) (i .0), closed-at (h .1) (i .1))
 
-    closed-there : {v : Spot A} → At o v p → InClosed o p b → InClosed o v b
+    closed-there : {v : Coord A} → At o v p → InClosed o p b → InClosed o v b
     closed-there h i = (closed-at (h .0 .1, h .0 .0) (i .0), closed-at (h .1 .1, h .1 .0) (i .1))
 
-    open-closed : {v : Spot A} → InOpen o v b → InClosed o v b
+    open-closed : {v : Coord A} → InOpen o v b → InClosed o v b
     open-closed i = (strictly-closed o d (i .0), strictly-closed o d (i .1))
 
     abbrev chosen : Bool → Bool → Matrix
@@ -189,8 +191,9 @@ module _ {A : Type 0} (o : Order A) (d : Dense o) where
     in-box false false h k E B = (off-side, sets.boundary-thin o d b (Common o (point p) E (box b) B) (λ v s. s .1))
     in-box false false h k E E = off-outside
 
-  -- two points
-  module _ (p q : Spot A) where
+  -- ---- two points
+
+  module _ (p q : Coord A) where
     same-yes : same o p q ≡ true → At o p q
     same-yes h =
         let k = both (o .eq (p .x) (q .x)) (o .eq (p .y) (q .y)) h in
@@ -199,11 +202,11 @@ module _ {A : Type 0} (o : Order A) (d : Dense o) where
     yes-same : At o p q → same o p q ≡ true
     yes-same h = all (yes-eq o d (h .0)) (yes-eq o d (h .1))
 
-    through : {v u w : Spot A} → At o v u → At o v w → At o u w
+    through : {v u w : Coord A} → At o v u → At o v w → At o u w
     through h k =
         (ranges.level-chain o d (ranges.level-sym o d (h .0)) (k .0), ranges.level-chain o d (ranges.level-sym o d (h .1)) (k .1))
 
-    turned : {v u : Spot A} → At o v u → At o u v
+    turned : {v u : Coord A} → At o v u → At o u v
     turned h = (ranges.level-sym o d (h .0), ranges.level-sym o d (h .1))
 
     off-both : HasArea o (Common o (point p) E (point q) E)
@@ -238,7 +241,8 @@ module _ {A : Type 0} (o : Order A) (d : Dense o) where
     two-points false h E B = λ v. v .1 .1
     two-points false h E E = off-both
 
-  -- all four pairs
+  -- ---- all four pairs
+
   pub meaning : (p q : Shape A) → Proper o p → Proper o q → (i j : CoordPos)
       → OfDimension o (Common o p i q j) (cellOf (related o p q) i j)
   unfolding related pointBox pointPoint
@@ -251,7 +255,7 @@ module _ {A : Type 0} (o : Order A) (d : Dense o) where
   meaning (box a) (box b) wp wq i j = boxes a b wp wq i j
 
   -- a cell is F exactly when no point lies in both sets
-  none : (S : Spot A → Type 0) (n : Dimensions) → OfDimension o S n → (n ≡ Empty) ↔ (HasPoint o S → ⊥)
+  none : (S : Coord A → Type 0) (n : Dimensions) → OfDimension o S n → (n ≡ Empty) ↔ (HasPoint o S → ⊥)
   none S n h = (λ e. subst (λ m. OfDimension o S m) e h, λ f. one-dimension o d S n Empty h f)
 
   pub empty-exactly : (p q : Shape A) → Proper o p → Proper o q → (i j : CoordPos)

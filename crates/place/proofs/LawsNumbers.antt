@@ -14,7 +14,9 @@ use lib.Ieee.Fits.{up-pos, down-pos}
 use lib.Ieee.Positive.{through}
 use Rattle.place.specs.Numbers.{Number, floatOf, numbers}
 use Rattle.place.specs.Sets.{Dense}
-use Rattle.place.proofs.LawsBool.{told, clash}
+use Rattle.de9im.proofs.LawsBool.{told, clash}
+
+-- ---- one comparison
 
 below-one-way : (s : Bool) (a : ℕ) (t : Bool) (b : ℕ) → below s a t b ≡ true → below t b s a ≡ false
 below-one-way false a false b h = let k = ltb-true a b h in le-ltb b a (omega arith)
@@ -45,6 +47,8 @@ below-ties false a false b = and-true (eqb a b) ∙ apart-or-equal a b
 below-ties false a true b = rw (add-comm b a) (both-zero a b)
 below-ties true a false b = rw (or-false (ltb 0 (a + b))) (both-zero a b)
 below-ties true a true b = rw (or-comm (ltb b a) (ltb a b)) (and-true (eqb a b) ∙ apart-or-equal a b)
+
+-- ---- three numbers
 
 -- a product that is 0 has a factor that is
 zero-left : (n k : ℕ) → 0 < k → n * k ≤ 0 → n ≡ 0
@@ -82,6 +86,8 @@ module _ (n k m l r j : ℕ) (hk : 0 < k) (hl : 0 < l) (hj : 0 < j) where
       rw (zr, zero-mul k) (le-ltb (n * j) 0 (omega arith))
   below-chain true true true h g =
       le-ltb (n * j) (r * k) (through r m n j l k hl (ltb-false (m * j) (r * l) g) (ltb-false (n * l) (m * k) h))
+
+-- ---- dense
 
 -- between ±n / k and ±m / l: some ±r / (2 * (k * l))
 module _ (n k m l : ℕ) (hk : 0 < k) (hl : 0 < l) where
@@ -175,6 +181,8 @@ middle a b h =
       rw (down-halves e f, up-halves e f, mul-one (p .1)) (p .3),
     )
 
+-- ---- without ends
+
 -- one more in size
 larger : (m : ℕ) (e : ℤ) → m * up e * down e < (m + 1) * up e * down e
 larger m e =
@@ -199,6 +207,8 @@ lower true m e = (number true (m + 1) e, lt-ltb (m * up e * down e) ((m + 1) * u
 lower false m e =
     let h = one-part e in
     (number true 1 (pos 0), lt-ltb 0 (1 * up (pos 0) * down e + m * up e * down (pos 0)) (omega arith))
+
+-- ---- all of it
 
 -- a number's fraction
 abbrev num : Number → ℕ

@@ -6,7 +6,7 @@ use Rattle.place.specs.declared.places.Corner.{Corner}
 use Rattle.place.specs.declared.places.Rect.{Rect}
 use Rattle.place.specs.declared.places.Place.the-variants as P
 use Rattle.place.specs.Places.{finite, finiteCorner, minBelowMax, isPlace}
-use Rattle.place.proofs.LawsBool.{both}
+use Rattle.de9im.proofs.LawsBool.{both}
 
 pub record IsPoint (c : Corner) : Type 0 where
   pub x : finite (c .x) ≡ true

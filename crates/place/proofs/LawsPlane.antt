@@ -9,21 +9,21 @@ use Rattle.de9im.specs.declared.dimensions.Dimensions.the-variants.{Empty}
 use Rattle.de9im.specs.Matrix.{cellOf}
 use Rattle.place.specs.declared.places.Place.{Place}
 use Rattle.place.specs.declared.places.Place.the-variants as P
-use Rattle.place.specs.Order.{floats}
+use Rattle.place.specs.Comparing.{floats}
 use Rattle.place.specs.Shapes.{mapShape, shapeOf}
 use Rattle.place.specs.Places.{finite, isPlace}
 use Rattle.place.specs.Rules.{related}
 use Rattle.place.specs.Sets.{Common, Proper, HasPoint, OfDimension}
-use Rattle.place.specs.Numbers.{floatOf, numbers, numberOf, inPlane}
-use Rattle.place.proofs.LawsBool.{clash}
+use Rattle.place.specs.Numbers.{floatOf, numbers, asNumber, inPlane}
+use Rattle.de9im.proofs.LawsBool.{clash}
 use Rattle.place.proofs.LawsPlaces.{point-place, box-place}
 use Rattle.place.proofs.LawsAlike.{kept}
 use Rattle.place.proofs.LawsMeaning as meaning
 use Rattle.place.proofs.LawsNumbers.{numbers-dense}
 
 -- a finite float is its number
-back : (x : Float) → finite x ≡ true → floatOf (numberOf x) ≡ x
-unfolding finite numberOf
+back : (x : Float) → finite x ≡ true → floatOf (asNumber x) ≡ x
+unfolding finite asNumber
 back nan h = clash h refl
 back (inf s) h = clash h refl
 back (fin s m e) h = refl

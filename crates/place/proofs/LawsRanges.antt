@@ -3,14 +3,16 @@ use mathlib.Core.Path.{_≡_, refl, sym, _∙_}
 use mathlib.Core.Bool.{true, false, _||_, or-true}
 use mathlib.Core.Logic.{_⊎_, inl, inr}
 use borrow.Author.Tests.{not-true, not-false}
-use Rattle.place.specs.Order.{Order, le}
+use Rattle.place.specs.Comparing.{Comparing, le}
 use Rattle.place.specs.Shapes.{Span}
 use Rattle.place.specs.Ranges.{inClosed, inOpen, meet, overlap, shareEnd}
 use Rattle.place.specs.Sets.{Below, AtMost, Strictly, Closed, Long, Level, Dense}
-use Rattle.place.proofs.LawsBool.{told, clash, both, one-false, neither, all}
+use Rattle.de9im.proofs.LawsBool.{told, clash, both, one-false, neither, all}
 use Rattle.place.proofs.LawsDense.{span, at-self, lt-le, le-lt, le-is, Off, top, bottom, narrow}
 
-module _ {A : Type 0} (o : Order A) (d : Dense o) where
+module _ {A : Type 0} (o : Comparing A) (d : Dense o) where
+  -- ---- what the comparisons say
+
   pub le-yes : {a b : A} → le o a b ≡ true → AtMost o a b
   le-yes {a} {b} h = not-true (o .lt b a) (sym (le-is o d a b) ∙ h)
 
@@ -27,6 +29,8 @@ module _ {A : Type 0} (o : Order A) (d : Dense o) where
 
   pub yes-eq : {a b : A} → Level o a b → o .eq a b ≡ true
   yes-eq {a} {b} h = d .ties a b ∙ rw (h .0, h .1) refl
+
+  -- ---- the ends of a range
 
   -- an end of a range: in the closed range, and not strictly between
   abbrev pub End : A → Span A → Type 0
@@ -53,6 +57,8 @@ module _ {A : Type 0} (o : Order A) (d : Dense o) where
     (d .chain (s .lo) f e (n .0 .0) (l .1), d .chain e f (s .hi) (l .0) (n .0 .1)),
     λ i. n .1 (lt-le o d (i .0) (l .0), le-lt o d (l .1) (i .1)),
   )
+
+  -- ---- two ranges
 
   module _ (s t : Span A) where
     -- the part that two ranges have in common
@@ -97,7 +103,9 @@ module _ {A : Type 0} (o : Order A) (d : Dense o) where
         let k = both (o .lt (t .lo) (s .lo)) (o .lt (s .hi) (t .hi)) h in
         (lt-le o d (k .0) (c .0), le-lt o d (c .1) (k .1))
 
-    -- a range that sticks out: which end does
+    -- ---- a range that sticks out
+
+    -- which end does
     pub out : inClosed o s t ≡ false → Below o (s .lo) (t .lo) ⊎ Below o (t .hi) (s .hi)
     out h = which (one-false (le o (t .lo) (s .lo)) (le o (s .hi) (t .hi)) h)
       where
@@ -142,7 +150,8 @@ module _ {A : Type 0} (o : Order A) (d : Dense o) where
     end-in l v (inl h) = (t .lo, (h, both (o .lt (s .lo) (t .hi)) (o .lt (t .lo) (s .hi)) v .1), end-lo t l)
     end-in l v (inr h) = (t .hi, (both (o .lt (s .lo) (t .hi)) (o .lt (t .lo) (s .hi)) v .0, h), end-hi t l)
 
-    -- a shared end
+    -- ---- a shared end
+
     pub shared : Long o s → Long o t → shareEnd o s t ≡ true → (e : A) × End e s × End e t
     shared ls lt h =
         told (o .eq (s .lo) (t .lo)) (λ k. (s .lo, end-lo s ls, end-level (eq-yes k) (end-lo t lt)))
@@ -175,7 +184,9 @@ module _ {A : Type 0} (o : Order A) (d : Dense o) where
       go (inr h) (inl k) = rw (yes-eq (level-chain (level-sym h) k), or-true) refl
       go (inr h) (inr k) = rw (yes-eq (level-chain (level-sym h) k), or-true, or-true) refl
 
-  -- closed ranges that meet: one is strictly inside the other, or each has an end in the other
+  -- ---- closed ranges that meet
+
+  -- one is strictly inside the other, or each has an end in the other
   pub data Ends (s t : Span A) : Type 0 where
     inner : inOpen o s t ≡ true → (e : A) → End e s → Closed o e t → Ends s t
     around : inOpen o t s ≡ true → (e : A) → Closed o e s → End e t → Ends s t

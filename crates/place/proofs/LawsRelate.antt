@@ -1,25 +1,24 @@
 -- What `relate` answers, over all places: accepted or refused, exchanged, with itself. Assumes nothing.
-use Prim.Native.Nat.{ℕ}
 use Prim.Native.String.{String}
 use mathlib.Core.Path.{_≡_, refl, ap}
 use mathlib.Core.Bool.{Bool, true, false, cond, _&&_, and-false}
 use mathlib.Core.Logic.{_↔_}
-use native.Mathlib.Omega.{arith}
 use lib.ListN.{getD}
 use Rattle.de9im.specs.declared.dimensions.Dimensions.the-variants.{TwoDimensional}
-use Rattle.de9im.specs.declared.refusal.Refusal.the-variants.{NotAPlace}
+use Rattle.de9im.specs.declared.refusal.Spot.the-variants.{Nowhere}
+use Rattle.de9im.specs.Answers.{checkedNo, checkedPlace}
 use Rattle.de9im.specs.Dimension.{dimNo}
 use Rattle.de9im.specs.Matrix.{Matrix, transposedOf}
-use Rattle.de9im.specs.Refused.{numberOf}
 use Rattle.de9im.specs.Text.{cellLetterOf}
 use Rattle.place.specs.declared.places.Place.{Place}
 use Rattle.place.specs.declared.places.Place.the-variants as P
-use Rattle.place.specs.Order.{floats}
+use Rattle.place.specs.Comparing.{floats}
 use Rattle.place.specs.Shapes.{shapeOf}
 use Rattle.place.specs.Places.{isPlace}
 use Rattle.place.specs.Rules.{printed, boxBox, pointPoint, related}
-use Rattle.place.specs.Relate.{accepted, refused, relateOf}
-use Rattle.place.proofs.LawsBool.{clash}
+use Rattle.place.specs.Relate.{accepted, refused, relateNo, relateOf}
+use Rattle.de9im.proofs.LawsApart.{fine-refused}
+use Rattle.de9im.proofs.LawsBool.{clash}
 use Rattle.place.proofs.LawsPlaces.{point-place, box-place}
 use Rattle.place.proofs.LawsFloats.{eq-sym, eq-self, lt-self}
 use Rattle.place.proofs.LawsExchange.{ee-two, exchanged}
@@ -41,15 +40,29 @@ refuses-second p q h = rw (h, and-false) refl
 
 -- refused exactly then, and accepted exactly otherwise
 decided : (t : Bool) (m : Matrix) → (cond t (accepted m) refused ≡ refused) ↔ (t ≡ false)
-decided true m = (λ e. absurd (let z : _≡_ {A = ℕ} 0 1 = cc (ap (λ a. a .related) e) in omega arith), λ e. clash refl e)
+decided true m = (λ e. fine-refused (ap (λ a. a .answer) e), λ e. clash refl e)
 decided false m = (λ e. refl, λ e. refl)
 
 pub thirteen-exactly : (p q : Place) → (relateOf p q ≡ refused) ↔ ((isPlace p && isPlace q) ≡ false)
 unfolding relateOf
 thirteen-exactly p q = decided (isPlace p && isPlace q) (related floats (shapeOf p) (shapeOf q))
 
-pub number-13 : numberOf NotAPlace ≡ 13
-number-13 = refl
+-- the number is document 01's, and no answer has a place in a text
+number : (t : Bool) (m : Matrix) → checkedNo (cond t (accepted m) refused .answer) ≡ cond t 0 13
+number true m = refl
+number false m = refl
+
+nowhere : (t : Bool) (m : Matrix) → checkedPlace (cond t (accepted m) refused .answer) ≡ Nowhere
+nowhere true m = refl
+nowhere false m = refl
+
+pub relate-number : (p q : Place) → checkedNo (relateOf p q .answer) ≡ relateNo p q
+unfolding relateOf
+relate-number p q = number (isPlace p && isPlace q) (related floats (shapeOf p) (shapeOf q))
+
+pub relate-place : (p q : Place) → checkedPlace (relateOf p q .answer) ≡ Nowhere
+unfolding relateOf
+relate-place p q = nowhere (isPlace p && isPlace q) (related floats (shapeOf p) (shapeOf q))
 
 -- EE is always 2
 pub relate-ee : (p q : Place) → isPlace p ≡ true → isPlace q ≡ true → getD (relateOf p q .cells) 8 0 ≡ dimNo TwoDimensional

@@ -1,28 +1,30 @@
--- Every cell's letter is the dimension of the set of points that lie in both parts: two boxes, two points, a point and a box,
--- over any dense linear order without ends. Assumes nothing.
+-- Every cell's letter is the dimension of the set of points that lie in both parts, for two boxes over any dense linear order without
+-- ends. Assumes nothing.
 use mathlib.Core.Path.{_≡_}
 use mathlib.Core.Bool.{Bool, true, false, not, cond, _&&_, _||_}
 use mathlib.Core.Logic.{_⊎_, inl, inr}
 use borrow.Author.Tests.{not-true, not-false}
 use Rattle.de9im.specs.declared.coordinate_position.CoordPos.the-variants.{Inside as I, OnBoundary as B, Outside as E}
 use Rattle.de9im.specs.declared.dimensions.Dimensions.the-variants.{Empty, ZeroDimensional, OneDimensional, TwoDimensional}
-use Rattle.place.specs.Order.{Order}
-use Rattle.place.specs.Shapes.{Span, Spot, Area, box}
+use Rattle.place.specs.Comparing.{Comparing}
+use Rattle.place.specs.Shapes.{Span, Coord, Area, box}
 use Rattle.place.specs.Ranges.{inClosed, inOpen, meet, overlap, onBoth, shareEnd, shareX, shareY}
 use Rattle.place.specs.Rules.{within, apart}
-use Rattle.place.specs.Sets.{AtMost, Closed, InClosed, Part, Common, Long, Wide, spot}
+use Rattle.place.specs.Sets.{AtMost, Closed, InClosed, Part, Common, Long, Wide, coord}
 use Rattle.place.specs.Sets.{HasPoint, HasSide, across, upright, HasArea, OfDimension, Dense}
-use Rattle.place.proofs.LawsBool.{clash, both, one-false, neither, all, either}
+use Rattle.de9im.proofs.LawsBool.{clash, both, one-false, neither, all, either}
 use Rattle.place.proofs.LawsDense.{span, le-lt, clear, top}
 use Rattle.place.proofs.LawsRanges as ranges
 
-module _ {A : Type 0} (o : Order A) (d : Dense o) where
+module _ {A : Type 0} (o : Comparing A) (d : Dense o) where
+  -- ---- what no box is, and what lies beyond
+
   -- no open box lies in the boundary of a box
-  pub boundary-thin : (b : Area A) (S : Spot A → Type 0) → ((v : Spot A) → S v → Part o (box b) B v) → HasArea o S → ⊥
+  pub boundary-thin : (b : Area A) (S : Coord A → Type 0) → ((v : Coord A) → S v → Part o (box b) B v) → HasArea o S → ⊥
   boundary-thin b S on r =
       let x = clear o d (r .0 .xs) (b .xs .lo) (b .xs .hi) (b .xs .lo) (b .xs .hi) (r .1 .0) in
       let y = clear o d (r .0 .ys) (b .ys .lo) (b .ys .hi) (b .ys .lo) (b .ys .hi) (r .1 .1) in
-      let h = on (spot (x .at) (y .at)) (r .2 (spot (x .at) (y .at)) (x .strictly, y .strictly)) in
+      let h = on (coord (x .at) (y .at)) (r .2 (coord (x .at) (y .at)) (x .strictly, y .strictly)) in
       h .1 (ranges.closed-off o d (h .0 .0) (x .off-a) (x .off-b), ranges.closed-off o d (h .0 .1) (y .off-a) (y .off-b))
 
   -- beyond two coordinates
@@ -32,12 +34,14 @@ module _ {A : Type 0} (o : Order A) (d : Dense o) where
       let h = d .higher (m .0) in
       (span (m .0) (h .0), h .1, m .1, m .2)
 
+  -- ---- II, IE and BE
+
   module _ (a b : Area A) (wa : Wide o a) (wb : Wide o b) where
     -- a point of an x side, and of a y side
-    side-x : {v : Spot A} {c : Area A} → ranges.End o d (v .x) (c .xs) → Closed o (v .y) (c .ys) → Part o (box c) B v
+    side-x : {v : Coord A} {c : Area A} → ranges.End o d (v .x) (c .xs) → Closed o (v .y) (c .ys) → Part o (box c) B v
     side-x e k = ((e .0, k), λ i. e .1 (i .0))
 
-    side-y : {v : Spot A} {c : Area A} → Closed o (v .x) (c .xs) → ranges.End o d (v .y) (c .ys) → Part o (box c) B v
+    side-y : {v : Coord A} {c : Area A} → Closed o (v .x) (c .xs) → ranges.End o d (v .y) (c .ys) → Part o (box c) B v
     side-y k e = ((k, e .0), λ i. e .1 (i .1))
 
     pub ii : (t : Bool) → onBoth o (overlap o) a b ≡ t → OfDimension o (Common o (box a) I (box b) I) (cond t TwoDimensional Empty)
@@ -58,7 +62,7 @@ module _ {A : Type 0} (o : Order A) (d : Dense o) where
         (ranges.common-gives o d (a .ys) (b .ys) (i .1) (ranges.strictly-closed o d (j .1))))
         h
 
-    within-closed : within o a b ≡ true → (v : Spot A) → InClosed o v a → InClosed o v b
+    within-closed : within o a b ≡ true → (v : Coord A) → InClosed o v a → InClosed o v b
     within-closed h v c =
         let k = both (inClosed o (a .xs) (b .xs)) (inClosed o (a .ys) (b .ys)) h in
         (ranges.closed-closed o d (a .xs) (b .xs) (k .0) (c .0), ranges.closed-closed o d (a .ys) (b .ys) (k .1) (c .1))
@@ -90,6 +94,8 @@ module _ {A : Type 0} (o : Order A) (d : Dense o) where
             let e = ranges.end-out o d (a .ys) (b .ys) (wa .1) (ranges.out o d (a .ys) (b .ys) k) in
             across (a .xs) (e .0) (wa .0) (λ x i. (side-y (ranges.strictly-closed o d i) (e .1), λ c. e .2 (c .1)))
 
+    -- ---- IB
+
     -- an end of b that lies strictly in a on one axis, and the range that both have on the other
     ib-side : onBoth o (overlap o) a b ≡ true → within o a b ≡ false → HasSide o (Common o (box a) I (box b) B)
     ib-side v h = go (one-false (inClosed o (a .xs) (b .xs)) (inClosed o (a .ys) (b .ys)) h)
@@ -120,6 +126,8 @@ module _ {A : Type 0} (o : Order A) (d : Dense o) where
         let c = p .1 .1 .0 in
         clash (all (ranges.common-gives o d (a .xs) (b .xs) (i .0) (c .0)) (ranges.common-gives o d (a .ys) (b .ys) (i .1) (c .1))) v
 
+    -- ---- BB
+
     -- what is apart has no point in common
     apart-none : apart o a b ≡ true → HasPoint o (Common o (box a) B (box b) B) → ⊥
     apart-none h p = go (either (not (onBoth o (meet o) a b)) (onBoth o (inOpen o) a b || onBoth o (inOpen o) b a) h)
@@ -149,14 +157,14 @@ module _ {A : Type 0} (o : Order A) (d : Dense o) where
     corner : ranges.Ends o d (a .xs) (b .xs) → ranges.Ends o d (a .ys) (b .ys)
         → onBoth o (inOpen o) a b ≡ false → onBoth o (inOpen o) b a ≡ false → HasPoint o (Common o (box a) B (box b) B)
     corner (ranges.inner i e m n) (ranges.inner j f u w) h k = clash (all i j) h
-    corner (ranges.inner i e m n) (ranges.around j f u w) h k = (spot e f, (side-x m u, side-y n w))
-    corner (ranges.inner i e m n) (ranges.each f u w g v z) h k = (spot e g, (side-x m v, side-y n z))
-    corner (ranges.around i e m n) (ranges.inner j f u w) h k = (spot e f, (side-y m u, side-x n w))
+    corner (ranges.inner i e m n) (ranges.around j f u w) h k = (coord e f, (side-x m u, side-y n w))
+    corner (ranges.inner i e m n) (ranges.each f u w g v z) h k = (coord e g, (side-x m v, side-y n z))
+    corner (ranges.around i e m n) (ranges.inner j f u w) h k = (coord e f, (side-y m u, side-x n w))
     corner (ranges.around i e m n) (ranges.around j f u w) h k = clash (all i j) k
-    corner (ranges.around i e m n) (ranges.each f u w g v z) h k = (spot e f, (side-y m u, side-x n w))
-    corner (ranges.each e m n f u w) (ranges.inner i g v z) h k = (spot f g, (side-y u v, side-x w z))
-    corner (ranges.each e m n f u w) (ranges.around i g v z) h k = (spot e g, (side-x m v, side-y n z))
-    corner (ranges.each e m n f u w) (ranges.each g v z r q l) h k = (spot e r, (side-x m q, side-y n l))
+    corner (ranges.around i e m n) (ranges.each f u w g v z) h k = (coord e f, (side-y m u, side-x n w))
+    corner (ranges.each e m n f u w) (ranges.inner i g v z) h k = (coord f g, (side-y u v, side-x w z))
+    corner (ranges.each e m n f u w) (ranges.around i g v z) h k = (coord e g, (side-x m v, side-y n z))
+    corner (ranges.each e m n f u w) (ranges.each g v z r q l) h k = (coord e r, (side-x m q, side-y n l))
 
     touch : apart o a b ≡ false → HasPoint o (Common o (box a) B (box b) B)
     touch h =
@@ -215,6 +223,8 @@ module _ {A : Type 0} (o : Order A) (d : Dense o) where
     bb false true h k =
         (bb-side (either (shareX o a b) (shareY o a b) k), boundary-thin a (Common o (box a) B (box b) B) (λ v s. s .0))
     bb false false h k = (touch h, λ s. no-side k (side-shares s))
+
+    -- ---- EE
 
     pub ee : HasArea o (Common o (box a) E (box b) E)
     ee =

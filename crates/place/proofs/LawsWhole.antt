@@ -6,28 +6,30 @@ use mathlib.Core.Bool.{true, cond}
 use native.Mathlib.Omega.{arith}
 use borrow.Author.Tests.{lt-ltb, le-ltb}
 use lib.Dec.{ltb, eqb}
-use Rattle.place.specs.Order.{Order, floats}
+use Rattle.place.specs.Comparing.{Comparing, floats}
 use Rattle.place.specs.Shapes.{Span, Shape, point, box, mapAxes, shapeOf}
 use Rattle.place.specs.declared.places.Place.{Place}
 use Rattle.place.specs.Places.{isPlace}
 use Rattle.place.specs.Rules.{related}
 use Rattle.place.specs.Numbers.{numbers, inPlane}
 use Rattle.place.specs.Sets.{Below, AtMost, Proper, Dense}
-use Rattle.place.proofs.LawsBool.{told}
+use Rattle.de9im.proofs.LawsBool.{told}
 use Rattle.place.proofs.LawsAlike.{Alike, alike}
 use Rattle.place.proofs.LawsDense.{at-self, lt-le}
 use Rattle.place.proofs.LawsNumbers.{apart-or-equal, numbers-dense}
 use Rattle.place.proofs.LawsPlane.{in-plane, proper}
 
+-- ---- a coordinate's rank
+
 -- whole numbers, compared
-abbrev pub wholes : Order ℕ
+abbrev pub wholes : Comparing ℕ
 wholes = record { lt = ltb; eq = eqb }
 
 -- the four coordinates of two places on one axis; a point's two are one
 data Name : Type 0 where
   lo-a hi-a lo-b hi-b : Name
 
-module _ {A : Type 0} (o : Order A) (d : Dense o) where
+module _ {A : Type 0} (o : Comparing A) (d : Dense o) where
   bit : A → A → ℕ
   bit a c = cond (o .lt a c) 1 0
 
@@ -82,6 +84,8 @@ module _ {A : Type 0} (o : Order A) (d : Dense o) where
     rank-small hi-b =
         let a = v hi-b in omega (arith, bit-self a, bit-small (v lo-a) a, bit-small (v hi-a) a, bit-small (v lo-b) a)
 
+    -- ---- the ranks are ordered as the coordinates are
+
     ranked : Name → ℕ
     ranked i = rank (v i)
 
@@ -100,7 +104,8 @@ module _ {A : Type 0} (o : Order A) (d : Dense o) where
               d .ties (v i) (v j) ∙ rw (ranks-lt i j, ranks-lt j i) (sym (apart-or-equal (ranked i) (ranked j)));
         }
 
-  -- two shapes by the names of their coordinates
+  -- ---- two shapes by the names of their coordinates
+
   first : Shape A → Shape Name
   first (point p) = point (record { x = lo-a; y = lo-a })
   first (box b) = box (record { xs = record { lo = lo-a; hi = hi-a }; ys = record { lo = lo-a; hi = hi-a } })
@@ -133,6 +138,8 @@ module _ {A : Type 0} (o : Order A) (d : Dense o) where
   unfolding second rangeX rangeY named
   second-is p (point q) = refl
   second-is p (box b) = refl
+
+  -- ---- on the grid
 
   -- every coordinate is 0 to 3
   abbrev pub OnGrid : Shape ℕ → Type 0

@@ -5,7 +5,7 @@ use Prim.Native.Nat.{ℕ}
 use lib.IntN.{ℤ, pos}
 use lib.Ieee.{Float, nan, inf, fin, lt, eq}
 use Rattle.place.specs.declared.places.Place.{Place}
-use Rattle.place.specs.Order.{Order}
+use Rattle.place.specs.Comparing.{Comparing}
 use Rattle.place.specs.Shapes.{Shape, mapShape, shapeOf}
 
 pub record Number : Type 0 where
@@ -16,15 +16,15 @@ pub record Number : Type 0 where
 abbrev pub floatOf : Number → Float
 floatOf q = fin (q .negative) (q .mantissa) (q .exponent)
 
-abbrev pub numbers : Order Number
+abbrev pub numbers : Comparing Number
 numbers = record { lt = λ a b. lt (floatOf a) (floatOf b); eq = λ a b. eq (floatOf a) (floatOf b) }
 
 -- the number that a float is; a NaN and the infinities are none, and never asked
-unfoldable pub numberOf : Float → Number
-numberOf nan = record { negative = false; mantissa = 0; exponent = pos 0 }
-numberOf (inf s) = record { negative = false; mantissa = 0; exponent = pos 0 }
-numberOf (fin s m e) = record { negative = s; mantissa = m; exponent = e }
+unfoldable pub asNumber : Float → Number
+asNumber nan = record { negative = false; mantissa = 0; exponent = pos 0 }
+asNumber (inf s) = record { negative = false; mantissa = 0; exponent = pos 0 }
+asNumber (fin s m e) = record { negative = s; mantissa = m; exponent = e }
 
 -- a place in the plane of these numbers
 abbrev pub inPlane : Place → Shape Number
-inPlane p = mapShape numberOf (shapeOf p)
+inPlane p = mapShape asNumber (shapeOf p)

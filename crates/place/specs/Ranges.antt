@@ -1,10 +1,10 @@
 -- Document 01's words about boxes, on one axis and then on both: "closed containment on both axes", "strictly inside",
 -- "the closed boxes don't meet", "an x side of one equals an x side of the other and the y ranges overlap with length".
 use mathlib.Core.Bool.{Bool, _&&_, _||_}
-use Rattle.place.specs.Order.{Order, le}
-use Rattle.place.specs.Shapes.{Span, Spot, Area}
+use Rattle.place.specs.Comparing.{Comparing, le}
+use Rattle.place.specs.Shapes.{Span, Coord, Area}
 
-module _ {A : Type 0} (o : Order A) where
+module _ {A : Type 0} (o : Comparing A) where
   -- one range lies in the other, ends allowed
   abbrev pub inClosed : Span A → Span A → Bool
   inClosed s t = le o (t .lo) (s .lo) && le o (s .hi) (t .hi)
@@ -46,12 +46,12 @@ module _ {A : Type 0} (o : Order A) where
   betweenOrOn v s = le o (s .lo) v && le o v (s .hi)
 
   -- a point against a box
-  abbrev pub inside : Spot A → Area A → Bool
+  abbrev pub inside : Coord A → Area A → Bool
   inside p b = between (p .x) (b .xs) && between (p .y) (b .ys)
 
-  abbrev pub insideOrOn : Spot A → Area A → Bool
+  abbrev pub insideOrOn : Coord A → Area A → Bool
   insideOrOn p b = betweenOrOn (p .x) (b .xs) && betweenOrOn (p .y) (b .ys)
 
   -- two points are equal
-  abbrev pub same : Spot A → Spot A → Bool
+  abbrev pub same : Coord A → Coord A → Bool
   same p q = o .eq (p .x) (q .x) && o .eq (p .y) (q .y)

@@ -11,8 +11,8 @@ use Rattle.de9im.specs.Cells.{matrixOf}
 use Rattle.de9im.specs.Dimension.{dimNo}
 use Rattle.de9im.specs.Matrix.{Matrix, transposedOf}
 use Rattle.de9im.specs.Text.{numbersOf}
-use Rattle.place.specs.Order.{Order}
-use Rattle.place.specs.Shapes.{Spot, Area, Shape, point, box}
+use Rattle.place.specs.Comparing.{Comparing}
+use Rattle.place.specs.Shapes.{Coord, Area, Shape, point, box}
 use Rattle.place.specs.Ranges.{inClosed, inOpen, meet, overlap, onBoth, shareX, shareY, inside, insideOrOn, same}
 
 -- a matrix as document 01 prints it
@@ -23,7 +23,7 @@ printed t = matrixOf (numbersOf (bytes t))
 abbrev pub isTwo : Dimensions → Bool
 isTwo d = eqb (dimNo d) (dimNo TwoDimensional)
 
-module _ {A : Type 0} (o : Order A) where
+module _ {A : Type 0} (o : Comparing A) where
   -- A within B meaning closed containment on both axes
   abbrev pub within : Area A → Area A → Bool
   within a b = onBoth o (inClosed o) a b
@@ -70,12 +70,12 @@ module _ {A : Type 0} (o : Order A) where
       ∷ []
 
   -- point in box: inside, on its edge, outside
-  unfoldable pub pointBox : Spot A → Area A → Matrix
+  unfoldable pub pointBox : Coord A → Area A → Matrix
   pointBox p b =
       cond (inside o p b) (printed "0FFFFF212") (cond (insideOrOn o p b) (printed "F0FFFF212") (printed "FF0FFF212"))
 
   -- points: equal, or not
-  unfoldable pub pointPoint : Spot A → Spot A → Matrix
+  unfoldable pub pointPoint : Coord A → Coord A → Matrix
   pointPoint p q = cond (same o p q) (printed "0FFFFFFF2") (printed "FF0FFF0F2")
 
   -- box with point is the transpose

@@ -11,7 +11,7 @@ pub record Span (A : Type 0) : Type 0 where
   pub lo : A
   pub hi : A
 
-pub record Spot (A : Type 0) : Type 0 where
+pub record Coord (A : Type 0) : Type 0 where
   pub x : A
   pub y : A
 
@@ -20,23 +20,23 @@ pub record Area (A : Type 0) : Type 0 where
   pub ys : Span A
 
 pub data Shape (A : Type 0) : Type 0 where
-  point : Spot A → Shape A
+  point : Coord A → Shape A
   box : Area A → Shape A
 
-abbrev pub spotOf : Corner → Spot Float
-spotOf c = record { x = c .x; y = c .y }
+abbrev pub coordOf : Corner → Coord Float
+coordOf c = record { x = c .x; y = c .y }
 
 abbrev pub areaOf : Rect → Area Float
 areaOf b = record { xs = record { lo = b .min .x; hi = b .max .x }; ys = record { lo = b .min .y; hi = b .max .y } }
 
 abbrev pub shapeOf : Place → Shape Float
-shapeOf (P.Point c) = point (spotOf c)
+shapeOf (P.Point c) = point (coordOf c)
 shapeOf (P.Box b) = box (areaOf b)
 
 -- the shape with f of each x coordinate and g of each y coordinate
 module _ {A B : Type 0} (f g : A → B) where
-  abbrev pub mapSpot : Spot A → Spot B
-  mapSpot p = record { x = f (p .x); y = g (p .y) }
+  abbrev pub mapCoord : Coord A → Coord B
+  mapCoord p = record { x = f (p .x); y = g (p .y) }
 
   abbrev pub mapArea : Area A → Area B
   mapArea b =
@@ -46,7 +46,7 @@ module _ {A B : Type 0} (f g : A → B) where
       }
 
   abbrev pub mapAxes : Shape A → Shape B
-  mapAxes (point p) = point (mapSpot p)
+  mapAxes (point p) = point (mapCoord p)
   mapAxes (box b) = box (mapArea b)
 
 -- with f of each coordinate

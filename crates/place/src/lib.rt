@@ -2,5 +2,5 @@
 pub mod boxes;
 pub mod places;
 pub mod points;
-pub mod ranges;
+pub(crate) mod ranges;
 pub mod relate;

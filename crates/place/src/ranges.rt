@@ -1,13 +1,27 @@
 // A box on one axis: its range from min to max, and how two ranges lie. Straight comparisons, each asked for both axes.
 use crate::places::Rect;
 ghost use mathlib.Core.Path.{_≡_};
-ghost use Rattle.place.specs.Order.{floats};
-ghost use Rattle.place.specs.Spans.{spanOf, xRange, yRange};
+ghost use Rattle.place.specs.Comparing.{floats};
+ghost use Rattle.place.specs.Inner.Spans.{spanOf, axesOf, xRange, yRange};
 ghost use Rattle.place.specs.Ranges.{inClosed, inOpen, meet, overlap, shareEnd, between, betweenOrOn};
 
 pub struct Range {
     pub lo: f64,
     pub hi: f64,
+}
+
+// A box as its range on each axis.
+pub struct Axes {
+    pub xs: Range,
+    pub ys: Range,
+}
+
+pub fn axes_of(b: Rect) -> Axes
+    ensures { λ r. ⌜ r ≡ axesOf b ⌝ }
+{
+    let xs = x_range(b);
+    let ys = y_range(b);
+    Axes { xs, ys }
 }
 
 pub fn x_range(b: Rect) -> Range

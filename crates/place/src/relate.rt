@@ -4,27 +4,17 @@ use crate::places::Place;
 use crate::places::is_place;
 use crate::points::point_box;
 use crate::points::point_point;
-use de9im::cells::Cells;
+use de9im::answer::CellsAnswer;
+use de9im::answer::Checked;
 use de9im::cells::to_cells;
 use de9im::intersection_matrix::IntersectionMatrix;
 use de9im::intersection_matrix::transposed;
 use de9im::refusal::Refusal;
 ghost use mathlib.Core.Path.{_≡_};
-ghost use Rattle.place.specs.Order.{floats};
+ghost use Rattle.place.specs.Comparing.{floats};
 ghost use Rattle.place.specs.Shapes.{shapeOf};
 ghost use Rattle.place.specs.Rules.{related};
 ghost use Rattle.place.specs.Relate.{relateOf};
-
-pub enum Related {
-    Accepted,
-    Refused(Refusal),
-}
-
-// The answer, with the matrix beside it as nine flat numbers; nine zeros beside a refusal.
-pub struct PlaceAnswer {
-    pub related: Related,
-    pub cells: Cells,
-}
 
 // Box with point is the transpose of point in box, so that rule is written once.
 fn matrix(p: Place, q: Place) -> IntersectionMatrix
@@ -42,17 +32,18 @@ fn matrix(p: Place, q: Place) -> IntersectionMatrix
     }
 }
 
-pub fn relate(p: Place, q: Place) -> PlaceAnswer
+// Nine zeros stand beside a refusal.
+pub fn relate(p: Place, q: Place) -> CellsAnswer
     ensures { λ r. ⌜ r ≡ relateOf p q ⌝ }
 {
     if is_place(p) & is_place(q) {
-        PlaceAnswer {
-            related: Related::Accepted,
+        CellsAnswer {
+            answer: Checked::Fine,
             cells: to_cells(matrix(p, q)),
         }
     } else {
-        PlaceAnswer {
-            related: Related::Refused(Refusal::NotAPlace),
+        CellsAnswer {
+            answer: Checked::Refused(Refusal::NotAPlace),
             cells: [0u8; 9],
         }
     }

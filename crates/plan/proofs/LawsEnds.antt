@@ -1,18 +1,26 @@
--- Laws of reading ends one after the other. Assumes nothing.
-use Prim.Native.Nat.{ℕ, suc, _+_, _-_, _<_}
-use mathlib.Core.Path.{_≡_, refl, sym, ap}
+-- Laws of reading ends one after the other into an array. Assumes nothing.
+use Prim.Native.Nat.{ℕ, zero, suc, _+_, _-_, _/_, _%_, _≤_, _<_}
+use mathlib.Core.Path.{_≡_, refl, sym, ap, _∙_}
+use mathlib.Core.Bool.{not}
 use mathlib.Core.List.{List, [], _∷_, _++_, append-nil}
 use native.Mathlib.Omega.{arith}
-use native.Mathlib.Numerals.{add-one}
-use lib.ListN.{length, take, set}
-use lib.Seq.{take-suc-set, append-snoc}
+use borrow.Author.Tests.{ltb-false}
+use lib.Dec.{eqb, ltb}
+use lib.ListN.{length, take, set, replicate, length-append}
+use lib.Seq.{append-snoc, take-append-seam}
+use Rattle.de9im.specs.declared.answer.Checked.the-variants.{Fine}
 use Rattle.de9im.specs.declared.refusal.Refusal.{Refusal}
+use Rattle.de9im.specs.declared.refusal.Refusal.the-variants as R
 use Rattle.star.specs.declared.«edge_end».EdgeEnd.{EdgeEnd}
-use Rattle.plan.specs.declared.«end_bytes».EndRead.the-variants as E
-use Rattle.plan.specs.EndBytes.{Ends, good, bad, more, endAt, readEnds}
+use Rattle.star.specs.Ends.{noEnd}
+use Rattle.star.proofs.LawsLists.{pad-step}
+use Rattle.plan.specs.declared.«end_bytes».EndsRead.{EndsRead}
+use Rattle.plan.specs.EndBytes.{Ends, endAt, readEnds, endsCall, paddedEnds, endsRead, endsCallOf}
+use Rattle.plan.specs.Read.{Read, good, bad, readAs, _>>=_}
+use Rattle.plan.proofs.LawsRead.{bad-good, passed}
 
 -- ends read earlier, in front
-abbrev pub before : List EdgeEnd → Ends → Ends
+abbrev before : List EdgeEnd → Ends → Ends
 before l (good m) = good (l ++ m)
 before l (bad r) = bad r
 
@@ -20,31 +28,99 @@ before-none : (r : Ends) → r ≡ before [] r
 before-none (good m) = refl
 before-none (bad r) = refl
 
-before-more : (l : List EdgeEnd) (e : EdgeEnd) (r : Ends) → before l (more e r) ≡ before (l ++ (e ∷ [])) r
-before-more l e (good m) = ap good (sym (append-snoc l e m))
-before-more l e (bad r) = refl
+before-one : (l : List EdgeEnd) (e : EdgeEnd) (r : Ends)
+    → before l (r >>= λ es. good (e ∷ es)) ≡ before (l ++ (e ∷ [])) r
+before-one l e (good m) = ap good (sym (append-snoc l e m))
+before-one l e (bad r) = refl
 
-pub start : (n : ℕ) (s : List ℕ) (at : ℕ) → readEnds n s at ≡ before [] (readEnds (n - 0) s at)
-start n s at =
+-- the loop: the first i of n ends are read, and they stand in the array, blanks behind them
+pub record ReadTo (s : List ℕ) (at n : ℕ) (ends : List EdgeEnd) (i p : ℕ) : Type 0 where
+  pub read : List EdgeEnd
+  pub many : length read ≡ i
+  pub kept : ends ≡ paddedEnds read
+  pub rest : readEnds n s at ≡ before read (readEnds (n - i) s p)
+
+pub start : (s : List ℕ) (at n : ℕ) (ends : List EdgeEnd) → ends ≡ replicate 32 noEnd → ReadTo s at n ends 0 at
+start s at n ends k =
     let e : n - 0 ≡ n = omega arith in
-    rw e (before-none (readEnds n s at))
+    record { read = []; many = refl; kept = k; rest = rw e (before-none (readEnds n s at)) }
 
-module _ (s : List ℕ) (l : List EdgeEnd) (p n i : ℕ) where
-  pub one-read : (e : EdgeEnd) → i < n → i < length l → endAt s p ≡ E.Is e
-      → before (take i l) (readEnds (n - i) s p) ≡ before (take (i + 1) (set l i e)) (readEnds (n - (i + 1)) s (p + 15))
+module _ (s : List ℕ) (at n : ℕ) (ends : List EdgeEnd) (i p : ℕ) (to : ReadTo s at n ends i p) where
+  pub one-read : (e : EdgeEnd) → i < n → n ≤ 32 → endAt s p ≡ good e → ReadTo s at n (set ends i e) (i + 1) (p + 15)
   unfolding readEnds
   one-read e h k q =
       let g : n - i ≡ suc (n - (i + 1)) = omega arith in
-      rw (g, q, before-more (take i l) e (readEnds (n - (i + 1)) s (p + 15)), add-one, take-suc-set l i e k)
+      record {
+        read = to .read ++ (e ∷ []);
+        many = length-append (to .read) (e ∷ []) ∙ omega (arith, to .many);
+        kept = rw (to .kept) (pad-step noEnd 32 (to .read) e i (to .many) (omega arith));
+        rest = to .rest ∙ rw (g, q) (before-one (to .read) e (readEnds (n - (i + 1)) s (p + 15)));
+      }
 
-  pub one-bad : (r : Refusal) → i < n → endAt s p ≡ E.Bad r → before (take i l) (readEnds (n - i) s p) ≡ bad r
+  pub one-bad : (r : Refusal) → i < n → endAt s p ≡ bad r → readEnds n s at ≡ bad r
   unfolding readEnds
   one-bad r h q =
       let g : n - i ≡ suc (n - (i + 1)) = omega arith in
-      rw (g, q)
+      to .rest ∙ rw (g, q) refl
 
-  pub all-read : i ≡ n → before (take i l) (readEnds (n - i) s p) ≡ good (take n l)
+  pub all-read : i ≡ n → record { answer = Fine; ends = ends; count = n } ≡ endsRead (readEnds n s at)
   unfolding readEnds
   all-read e =
       let g : n - i ≡ 0 = omega arith in
-      rw (g, append-nil (take i l), e)
+      let m : length (to .read) ≡ n = to .many ∙ e in
+      let f : readEnds n s at ≡ good (to .read) = to .rest ∙ rw (g, append-nil (to .read)) refl in
+      rw (f, to .kept) (ap {B = EndsRead} (λ (k : ℕ). record { answer = Fine; ends = paddedEnds (to .read); count = k }) (sym m))
+
+-- as many ends as were asked for
+length-by : (n : ℕ) (x : Read EdgeEnd) (y : Ends) (es : List EdgeEnd) → ((fs : List EdgeEnd) → y ≡ good fs → length fs ≡ n)
+    → (x >>= λ e. y >>= λ fs. good (e ∷ fs)) ≡ good es → length es ≡ suc n
+length-by n (bad r) y es h q = bad-good q
+length-by n (good e) (bad r) es h q = bad-good q
+length-by n (good e) (good fs) es h q =
+    let g : (e ∷ fs) ≡ es = cc in
+    rw (← g) (ap suc (h fs refl))
+
+pub read-length : (n : ℕ) (s : List ℕ) (at : ℕ) (es : List EdgeEnd) → readEnds n s at ≡ good es → length es ≡ n
+unfolding readEnds
+read-length zero s at es q =
+    let g : [] ≡ es = cc in
+    rw (← g) refl
+read-length (suc n) s at es q = length-by n (endAt s at) (readEnds n s (at + 15)) es (λ fs. read-length n s (at + 15) fs) q
+
+-- what an array of ends read says of the list
+padded-length : (es : List EdgeEnd) → length es ≤ 32 → length (paddedEnds es) ≡ 32
+padded-length es h = length-append es (replicate (32 - length es) noEnd) ∙ omega (arith, replicate-length (32 - length es))
+  where
+    replicate-length : (k : ℕ) → length (replicate k noEnd) ≡ k
+    replicate-length zero = refl
+    replicate-length (suc k) = ap suc (replicate-length k)
+
+list-by : (n : ℕ) (x : Ends) (r : EndsRead) → ((es : List EdgeEnd) → x ≡ good es → (length es ≡ n) × (n ≤ 32)) → r ≡ endsRead x
+    → (x ≡ readAs (r .answer) (take n (r .ends))) × (length (r .ends) ≡ 32)
+list-by n (bad q) r l e = (rw e refl, rw e refl)
+list-by n (good es) r l e =
+    let m = l es refl .0 in
+    let h = l es refl .1 in (
+      rw (e, ← m, take-append-seam es (replicate (32 - length es) noEnd)) refl,
+      rw e (padded-length es (omega arith)),
+    )
+
+pub ends-list : (n : ℕ) (s : List ℕ) (at : ℕ) (r : EndsRead) → n ≤ 32 → r ≡ endsRead (readEnds n s at)
+    → (readEnds n s at ≡ readAs (r .answer) (take n (r .ends))) × (length (r .ends) ≡ 32)
+ends-list n s at r h e = list-by n (readEnds n s at) r (λ es q. (read-length n s at es q, h)) e
+
+-- bytes that are all ends: at most 32, read one after the other
+pub call-read : (s : List ℕ) (es : List EdgeEnd) → endsCall s ≡ good es
+    → (length s / 15 ≤ 32) × (readEnds (length s / 15) s 0 ≡ good es)
+unfolding endsCall
+call-read s es e =
+    let p = passed (not (eqb (length s % 15) 0)) R.Length _ es e .1 in
+    let q = passed (ltb 32 (length s / 15)) R.Ends _ es p in
+    (ltb-false _ _ (q .0), q .1)
+
+pub call-list : (s : List ℕ) (r : EndsRead) → r ≡ endsCallOf s
+    → (endsCall s ≡ readAs (r .answer) (take (length s / 15) (r .ends))) × (length (r .ends) ≡ 32)
+call-list s r e =
+    list-by (length s / 15) (endsCall s) r (λ es q.
+    let c = call-read s es q in
+    (read-length (length s / 15) s 0 es (c .1), c .0)) e

@@ -5,57 +5,62 @@ use mathlib.Core.List.{List}
 use borrow.Author.Tests.{lt-ltb, le-ltb, eq-eqb, ne-eqb}
 use lib.ListN.{length}
 use Rattle.de9im.specs.declared.refusal.Refusal.the-variants.{Short, Version, Kind, Length, Ends}
-use Rattle.plan.specs.Words.{byteAt, halfAt}
-use Rattle.plan.specs.Record.{refusedAs, withNode, nodeAt, nodeOf, edgeOf, recordOf}
+use Rattle.plan.specs.Read.{bad}
+use Rattle.plan.specs.Record.{refusedAs, pouredBy, recordOf}
+use Rattle.plan.specs.Said.{nodeBody, nodeOf, edgeOf, saidOf}
+use Rattle.plan.specs.Words.{byteAt, promised}
 
-module _ (ns s : List ℕ) where
-  pub node-short : halfAt s 0 < 7 → nodeOf ns s ≡ refusedAs Length ns
+-- kind 1
+module _ (s : List ℕ) where
+  pub node-short : promised s < 7 → nodeOf s ≡ bad Length
   unfolding nodeOf
   node-short h = simp (lt-ltb _ _ h)
 
-  module _ (seven : 7 ≤ halfAt s 0) where
-    pub node-many : 32 < byteAt s 8 → nodeOf ns s ≡ refusedAs Ends ns
+  module _ (seven : 7 ≤ promised s) where
+    pub node-many : 32 < byteAt s 8 → nodeOf s ≡ bad Ends
     unfolding nodeOf
     node-many h = simp (le-ltb _ _ seven, lt-ltb _ _ h)
 
     module _ (few : byteAt s 8 ≤ 32) where
-      pub node-length : (halfAt s 0 ≡ 7 + 15 * byteAt s 8 → ⊥) → nodeOf ns s ≡ refusedAs Length ns
+      pub node-length : (promised s ≡ 7 + 15 * byteAt s 8 → ⊥) → nodeOf s ≡ bad Length
       unfolding nodeOf
       node-length h = simp (le-ltb _ _ seven, le-ltb _ _ few, ne-eqb _ _ h)
 
-      pub node-body : halfAt s 0 ≡ 7 + 15 * byteAt s 8 → nodeOf ns s ≡ withNode ns s (nodeAt s)
+      pub node-body : promised s ≡ 7 + 15 * byteAt s 8 → nodeOf s ≡ nodeBody s
       unfolding nodeOf
       node-body h = simp (le-ltb _ _ seven, le-ltb _ _ few, eq-eqb _ _ h)
 
+-- every record
+module _ (ns s : List ℕ) where
   pub no-field : length s < 2 → recordOf ns s ≡ refusedAs Short ns
-  unfolding recordOf
+  unfolding recordOf saidOf
   no-field h = simp (lt-ltb _ _ h)
 
   module _ (two : 2 ≤ length s) where
-    pub no-body : length s < 2 + halfAt s 0 → recordOf ns s ≡ refusedAs Short ns
-    unfolding recordOf
+    pub no-body : length s < 2 + promised s → recordOf ns s ≡ refusedAs Short ns
+    unfolding recordOf saidOf
     no-body h = simp (le-ltb _ _ two, lt-ltb _ _ h)
 
-    module _ (whole : 2 + halfAt s 0 ≤ length s) where
-      pub too-short : halfAt s 0 < 2 → recordOf ns s ≡ refusedAs Length ns
-      unfolding recordOf
+    module _ (whole : 2 + promised s ≤ length s) where
+      pub too-short : promised s < 2 → recordOf ns s ≡ refusedAs Length ns
+      unfolding recordOf saidOf
       too-short h = simp (le-ltb _ _ two, le-ltb _ _ whole, lt-ltb _ _ h)
 
-      module _ (some : 2 ≤ halfAt s 0) where
+      module _ (some : 2 ≤ promised s) where
         pub other-version : (byteAt s 2 ≡ 1 → ⊥) → recordOf ns s ≡ refusedAs Version ns
-        unfolding recordOf
+        unfolding recordOf saidOf
         other-version h = simp (le-ltb _ _ two, le-ltb _ _ whole, le-ltb _ _ some, ne-eqb _ _ h)
 
         module _ (one : byteAt s 2 ≡ 1) where
-          pub a-node : byteAt s 3 ≡ 1 → recordOf ns s ≡ nodeOf ns s
-          unfolding recordOf
+          pub a-node : byteAt s 3 ≡ 1 → recordOf ns s ≡ pouredBy ns (2 + promised s) (nodeOf s)
+          unfolding recordOf saidOf
           a-node h = simp (le-ltb _ _ two, le-ltb _ _ whole, le-ltb _ _ some, eq-eqb _ _ one, eq-eqb _ _ h)
 
           module _ (no-node : byteAt s 3 ≡ 1 → ⊥) where
-            pub an-edge : byteAt s 3 ≡ 2 → recordOf ns s ≡ edgeOf ns s
-            unfolding recordOf
+            pub an-edge : byteAt s 3 ≡ 2 → recordOf ns s ≡ pouredBy ns (2 + promised s) (edgeOf s)
+            unfolding recordOf saidOf
             an-edge h = simp (le-ltb _ _ two, le-ltb _ _ whole, le-ltb _ _ some, eq-eqb _ _ one, ne-eqb _ _ no-node, eq-eqb _ _ h)
 
             pub other-kind : (byteAt s 3 ≡ 2 → ⊥) → recordOf ns s ≡ refusedAs Kind ns
-            unfolding recordOf
+            unfolding recordOf saidOf
             other-kind h = simp (le-ltb _ _ two, le-ltb _ _ whole, le-ltb _ _ some, eq-eqb _ _ one, ne-eqb _ _ no-node, ne-eqb _ _ h)

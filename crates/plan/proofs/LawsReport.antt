@@ -11,9 +11,9 @@ use lib.Dec.{eqb}
 use lib.ListN.{length, take, drop, length-drop}
 use lib.Seq.{take-all, drop-drop, drop-length, take-length}
 use Rattle.de9im.specs.declared.refusal.Refusal.the-variants.{Short, Length, Version, NoRoom}
-use Rattle.plan.specs.declared.Answer.the-variants.{Used, Refused}
-use Rattle.plan.specs.Words.{byteAt, halfAt}
-use Rattle.plan.specs.Report.{noReport, lettersOf, readReport, reportBytes, wroteOf, writtenOf}
+use Rattle.de9im.specs.declared.answer.Answer.the-variants.{Used, Refused}
+use Rattle.plan.specs.Words.{byteAt, promised}
+use Rattle.plan.specs.Report.{noReport, lettersOf, reportSaid, reportAs, readReport, reportBytes, wroteOf, writtenOf}
 
 -- a length field of 10 is 00 0A
 pub ten-bytes : (a b : ℕ) → b < 256 → (eqb a 0 && eqb b 10) ≡ eqb (a * 256 + b) 10
@@ -26,26 +26,26 @@ ten-bytes a b h = by-first (eqb a 0) refl
 -- the checks of a report in turn
 module _ (s : List ℕ) where
   pub short-field : length s < 2 → readReport s ≡ noReport Short
-  unfolding readReport
+  unfolding readReport reportSaid
   short-field h = simp (lt-ltb _ _ h)
 
   module _ (two : 2 ≤ length s) where
-    pub short-body : length s < 2 + halfAt s 0 → readReport s ≡ noReport Short
-    unfolding readReport
+    pub short-body : length s < 2 + promised s → readReport s ≡ noReport Short
+    unfolding readReport reportSaid
     short-body h = simp (le-ltb _ _ two, lt-ltb _ _ h)
 
-    module _ (whole : 2 + halfAt s 0 ≤ length s) where
-      pub bad-length : eqb (halfAt s 0) 10 ≡ false → readReport s ≡ noReport Length
-      unfolding readReport
+    module _ (whole : 2 + promised s ≤ length s) where
+      pub bad-length : eqb (promised s) 10 ≡ false → readReport s ≡ noReport Length
+      unfolding readReport reportSaid
       bad-length e = simp (le-ltb _ _ two, le-ltb _ _ whole, e)
 
-      module _ (ten : eqb (halfAt s 0) 10 ≡ true) where
+      module _ (ten : eqb (promised s) 10 ≡ true) where
         pub bad-version : eqb (byteAt s 2) 1 ≡ false → readReport s ≡ noReport Version
-        unfolding readReport
+        unfolding readReport reportSaid
         bad-version e = simp (le-ltb _ _ two, le-ltb _ _ whole, ten, e)
 
-        pub by-letters : eqb (byteAt s 2) 1 ≡ true → readReport s ≡ lettersOf (take 9 (drop 3 s))
-        unfolding readReport
+        pub by-letters : eqb (byteAt s 2) 1 ≡ true → readReport s ≡ reportAs (lettersOf (take 9 (drop 3 s)))
+        unfolding readReport reportSaid
         by-letters e = simp (le-ltb _ _ two, le-ltb _ _ whole, ten, e)
 
 -- a part that reaches to the end, whose first twelve are replaced

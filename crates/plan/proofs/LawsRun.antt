@@ -1,40 +1,30 @@
 -- Laws of runs of accepted records: a run has one result, and it leaves every cell at least what it was. Assumes nothing.
 use Prim.Native.Nat.{ℕ, _+_, _*_, _≤_, _<_, min}
-use mathlib.Core.Path.{_≡_, refl, sym, ap, subst, _∙_}
-use mathlib.Core.Bool.{Bool, true, false, cond, not}
+use mathlib.Core.Path.{_≡_, refl, sym, ap, subst, subst⁻¹, _∙_}
 use mathlib.Core.List.{List, _∷_}
 use native.Mathlib.Omega.{arith}
-use lib.Dec.{eqb, ltb}
-use lib.ListN.{length, getD}
-use Rattle.de9im.specs.declared.refusal.Refusal.{Refusal}
-use Rattle.de9im.specs.declared.refusal.Refusal.the-variants.{Short, Version, Kind, Length, Ends, PositionCode, MissingLeft}
+use lib.ListN.{getD}
+use Rattle.de9im.specs.declared.answer.BytesAnswer.{BytesAnswer}
+use Rattle.de9im.specs.declared.dimensions.Dimensions.the-variants.{ZeroDimensional}
 use Rattle.de9im.specs.Cells.{cellsOf, matrixOf}
 use Rattle.de9im.specs.Dimension.{dimNo}
-use Rattle.de9im.specs.Matrix.{Matrix, cellAt}
-use Rattle.de9im.specs.declared.dimensions.Dimensions.the-variants.{ZeroDimensional}
+use Rattle.de9im.specs.Matrix.{cellAt}
 use Rattle.de9im.proofs.LawsForms.{cells-back, matrix-shaped, nine-at}
 use Rattle.de9im.proofs.LawsPatterns.{cells-at}
 use Rattle.star.specs.declared.label.Label.{Label}
-use Rattle.star.specs.Completing.{missingLeft, completedOf}
+use Rattle.star.specs.declared.pouring.Node.{Node}
+use Rattle.star.specs.Completing.{completedOf}
 use Rattle.star.specs.Pouring.{pourNode, pourLabel, pourLabels}
 use Rattle.star.specs.Star.{joinedOf}
 use Rattle.star.proofs.LawsPouring.{raise-cell, raise-shape, label-cell, labels-raise}
-use Rattle.plan.specs.declared.Answer.the-variants.{Used, Refused}
-use Rattle.plan.specs.declared.«label_bytes».LabelRead.{LabelRead}
-use Rattle.plan.specs.declared.«label_bytes».LabelRead.the-variants as L
-use Rattle.star.specs.declared.pouring.Node.{Node}
-use Rattle.plan.specs.declared.record.NodeRead.{NodeRead}
-use Rattle.plan.specs.declared.record.NodeRead.the-variants as N
-use Rattle.plan.specs.declared.record.RecordAnswer.{RecordAnswer}
-use Rattle.plan.specs.EndBytes.{good, bad, readEnds}
-use Rattle.plan.specs.EndBytes.{Ends as ReadEnds}
-use Rattle.plan.specs.LabelBytes.{labelAt}
-use Rattle.plan.specs.Record.{refusedAs, acceptedAs, unless, edgeWith, edgeOf, nodeAt, withEnds, withNode, nodeOf, byKind, recordOf}
+use Rattle.plan.specs.Read.{good}
+use Rattle.plan.specs.Record.{pourSaid, recordOf}
 use Rattle.plan.specs.Run.{Accepts, Run, none, then}
-use Rattle.plan.specs.Words.{byteAt, halfAt}
+use Rattle.plan.specs.Said.{Said, edge, node, saidOf}
+use Rattle.plan.proofs.LawsSaid.{says, has-lefts, poured-node}
 
 cells-of-answer : {ns s ms : List ℕ} → Accepts ns s ms → recordOf ns s .cells ≡ ms
-cells-of-answer a = ap (λ (x : RecordAnswer). x .cells) (a .answer)
+cells-of-answer a = ap (λ (x : BytesAnswer). x .cells) (a .answer)
 
 -- a run has one result
 pub one-result : {ns os ps : List ℕ} {rs : List (List ℕ)} → Run ns rs os → Run ns rs ps → os ≡ ps
@@ -77,74 +67,19 @@ node-rises ns n ls i j h k =
       labels-raise m ls (raise-shape (matrixOf ns) (n .«on_a») (n .«on_b») ZeroDimensional s) i j h k,
     )
 
--- an answer that was accepted
-abbrev usedAs : ℕ → List ℕ → RecordAnswer
-usedAs u ms = record { answer = Used u; cells = ms }
-
-not-accepted : {A : Type 0} (r : Refusal) (ns ms : List ℕ) (u : ℕ) → refusedAs r ns ≡ usedAs u ms → A
-not-accepted r ns ms u e =
-    let f : Refused r ≡ Used u = ap (λ (x : RecordAnswer). x .answer) e in
-    absurd (let z : _≡_ {A = ℕ} 0 1 = cc in omega arith)
-
--- it passed a check
-passed : (t : Bool) (r : Refusal) (ns : List ℕ) (rest : RecordAnswer) (u : ℕ) (ms : List ℕ) → unless t r ns rest ≡ usedAs u ms
-    → rest ≡ usedAs u ms
-passed true r ns rest u ms e = not-accepted r ns ms u e
-passed false r ns rest u ms e = e
-
 -- an accepted record poured one label, or a node and its star's labels: what holds of both holds of every result
-module _ (ns : List ℕ) (P : List ℕ → Type 0) (edge : (l : Label) → P (cellsOf (pourLabel (matrixOf ns) l)))
-    (node : (n : Node) (ls : List Label) → P (cellsOf (pourLabels (pourNode (matrixOf ns) (n .«on_a») (n .«on_b»)) ls)))
+module _ (ns : List ℕ) (P : List ℕ → Type 0) (edge-has : (l : Label) → P (cellsOf (pourLabel (matrixOf ns) l)))
+    (node-has : (n : Node) (ls : List Label) → P (cellsOf (pourLabels (pourNode (matrixOf ns) (n .«on_a») (n .«on_b»)) ls)))
   where
-    poured-as : (ms : List ℕ) (m : Matrix) (u v : ℕ) → acceptedAs v m ≡ usedAs u ms → P (cellsOf m) → P ms
-    poured-as ms m u v e r = subst (λ (l : List ℕ). P l) (ap (λ (x : RecordAnswer). x .cells) e) r
-
-    by-label : (ms : List ℕ) (u : ℕ) (l : LabelRead) → edgeWith ns l ≡ usedAs u ms → P ms
-    by-label ms u (L.Is l) e = poured-as ms (pourLabel (matrixOf ns) l) u 11 e (edge l)
-    by-label ms u (L.Bad r) e = not-accepted r ns ms u e
-
-    by-ends : (ms : List ℕ) (u v : ℕ) (n : Node) (es : ReadEnds) → withEnds ns v n es ≡ usedAs u ms → P ms
-    by-ends ms u v n (bad r) e = not-accepted r ns ms u e
-    by-ends ms u v n (good es) e =
-        let ls = completedOf (n .«area_a») (n .«area_b») (joinedOf es) in
-        let m = pourLabels (pourNode (matrixOf ns) (n .«on_a») (n .«on_b»)) ls in
-        poured-as ms m u v (passed (missingLeft (joinedOf es)) MissingLeft ns (acceptedAs v m) u ms e) (node n ls)
-
-    by-body : (ms s : List ℕ) (u : ℕ) (n : NodeRead) → withNode ns s n ≡ usedAs u ms → P ms
-    by-body ms s u N.Bad e = not-accepted PositionCode ns ms u e
-    by-body ms s u (N.Is n) e = by-ends ms u (2 + halfAt s 0) n (readEnds (byteAt s 8) s 9) e
-
-    by-node : (ms s : List ℕ) (u : ℕ) → nodeOf ns s ≡ usedAs u ms → P ms
-    unfolding nodeOf
-    by-node ms s u e =
-        let body = withNode ns s (nodeAt s) in
-        let long = unless (not (eqb (halfAt s 0) (7 + 15 * byteAt s 8))) Length ns body in
-        let many = unless (ltb 32 (byteAt s 8)) Ends ns long in
-        by-body ms s u (nodeAt s)
-        (passed (not (eqb (halfAt s 0) (7 + 15 * byteAt s 8))) Length ns body u ms
-        (passed (ltb 32 (byteAt s 8)) Ends ns long u ms (passed (ltb (halfAt s 0) 7) Length ns many u ms e)))
-
-    by-edge : (ms s : List ℕ) (u : ℕ) → edgeOf ns s ≡ usedAs u ms → P ms
-    unfolding edgeOf
-    by-edge ms s u e = by-label ms u (labelAt s 4) (passed (not (eqb (halfAt s 0) 9)) Length ns (edgeWith ns (labelAt s 4)) u ms e)
-
-    by-either : (ms s : List ℕ) (u : ℕ) (t v : Bool) → cond t (nodeOf ns s) (cond v (edgeOf ns s) (refusedAs Kind ns)) ≡ usedAs u ms → P ms
-    by-either ms s u true v e = by-node ms s u e
-    by-either ms s u false true e = by-edge ms s u e
-    by-either ms s u false false e = not-accepted Kind ns ms u e
+    by-said : (s : List ℕ) (x : Said) → saidOf s ≡ good x → P (pourSaid ns x)
+    by-said s (edge l) e = edge-has l
+    by-said s (node n es) e =
+        subst⁻¹ P (poured-node ns n es (has-lefts s n es e)) (node-has n (completedOf (n .«area_a») (n .«area_b») (joinedOf es)))
 
     pub accepted-by : (s ms : List ℕ) → Accepts ns s ms → P ms
-    unfolding recordOf
     accepted-by s ms a =
-        let u = a .used in
-        let kind = byKind ns s in
-        let version = unless (not (eqb (byteAt s 2) 1)) Version ns kind in
-        let short = unless (ltb (halfAt s 0) 2) Length ns version in
-        let body = unless (ltb (length s) (2 + halfAt s 0)) Short ns short in
-        by-either ms s u (eqb (byteAt s 3) 1) (eqb (byteAt s 3) 2)
-        (passed (not (eqb (byteAt s 2) 1)) Version ns kind u ms
-        (passed (ltb (halfAt s 0) 2) Length ns version u ms
-        (passed (ltb (length s) (2 + halfAt s 0)) Short ns short u ms (passed (ltb (length s) 2) Short ns body u ms (a .answer)))))
+        let x = says ns s (a .used) ms (a .answer) in
+        subst⁻¹ P (x .leaves) (by-said s (x .said) (x .is))
 
 -- an accepted record leaves every cell at least what it was
 pub record-rises : (ns s ms : List ℕ) → Accepts ns s ms → Rises ns ms

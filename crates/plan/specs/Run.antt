@@ -3,7 +3,7 @@
 use Prim.Native.Nat.{ℕ}
 use mathlib.Core.Path.{_≡_}
 use mathlib.Core.List.{List, [], _∷_}
-use Rattle.plan.specs.declared.Answer.the-variants.{Used}
+use Rattle.de9im.specs.declared.answer.Answer.the-variants.{Used}
 use Rattle.plan.specs.Record.{recordOf}
 
 -- a record is accepted: it leads from nine numbers to nine numbers

@@ -1,4 +1,4 @@
--- Document 01: "Big-endian. Two bytes of length", "dx, dy (four bytes each, signed)".
+-- Document 01: "Big-endian. Two bytes of length (bytes that follow)", "dx, dy (four bytes each, signed)".
 use Prim.Native.Nat.{ℕ, _+_, _*_}
 use mathlib.Core.Bool.{cond}
 use mathlib.Core.List.{List}
@@ -9,17 +9,21 @@ use lib.IntN.{ℤ, pos, _-ℤ_}
 abbrev pub byteAt : List ℕ → ℕ → ℕ
 byteAt s k = getD s k 0
 
-abbrev pub halfOf : ℕ → ℕ → ℕ
-halfOf a b = a * 256 + b
+abbrev pub twoBytes : ℕ → ℕ → ℕ
+twoBytes a b = a * 256 + b
 
-abbrev pub halfAt : List ℕ → ℕ → ℕ
-halfAt s k = halfOf (byteAt s k) (byteAt s (k + 1))
+abbrev pub twoBytesAt : List ℕ → ℕ → ℕ
+twoBytesAt s k = twoBytes (byteAt s k) (byteAt s (k + 1))
 
-abbrev pub wordOf : ℕ → ℕ → ℕ → ℕ → ℕ
-wordOf a b c d = ((a * 256 + b) * 256 + c) * 256 + d
+-- the length field: how many bytes are to follow it
+abbrev pub promised : List ℕ → ℕ
+promised s = twoBytesAt s 0
 
-abbrev pub wordAt : List ℕ → ℕ → ℕ
-wordAt s k = wordOf (byteAt s k) (byteAt s (k + 1)) (byteAt s (k + 2)) (byteAt s (k + 3))
+abbrev pub fourBytes : ℕ → ℕ → ℕ → ℕ → ℕ
+fourBytes a b c d = ((a * 256 + b) * 256 + c) * 256 + d
+
+abbrev pub fourBytesAt : List ℕ → ℕ → ℕ
+fourBytesAt s k = fourBytes (byteAt s k) (byteAt s (k + 1)) (byteAt s (k + 2)) (byteAt s (k + 3))
 
 -- two's complement of 32 bits
 abbrev pub signedOf : ℕ → ℤ

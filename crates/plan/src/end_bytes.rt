@@ -1,35 +1,26 @@
 // Ends, fifteen bytes each: dx, dy, a label. Read one after the other, with the first refusal.
 use crate::label_bytes::label_fault;
 use crate::label_bytes::label_read;
+use crate::words::four_bytes_at;
 use crate::words::signed_of;
-use crate::words::word_at;
+use de9im::answer::Checked;
 use de9im::refusal::Refusal;
-use star::edge_end::Checked;
 use star::edge_end::Dir;
 use star::edge_end::EdgeEnd;
 use star::edge_end::bad_dir;
 use star::label::blank;
 ghost use mathlib.Core.Path.{_≡_};
-ghost use Prim.Native.Nat.{_+_, _*_, _/_, _≤_};
-ghost use lib.ListN.{length, take};
-ghost use Rattle.plan.specs.EndBytes.{dirAt, readEnds, endsOf, endsCall};
-ghost use Rattle.plan.specs.Reading.{endFault, endRead};
+ghost use Prim.Native.Nat.{_+_, _*_, _≤_};
+ghost use lib.ListN.{length};
+ghost use Rattle.star.specs.Ends.{noEnd};
+ghost use Rattle.plan.specs.EndBytes.{dirAt, readEnds, noneRead, endsRead, endsCallOf};
+ghost use Rattle.plan.specs.Inner.Reading.{endFault, endRead};
 
-// What an end's bytes say, or the first refusal: only the definitions speak of it.
-pub enum EndRead {
-    Is(EdgeEnd),
-    Bad(Refusal),
-}
-
-// Whether all ends were read, or the first refusal.
-pub enum EndsAnswer {
-    Read,
-    Refused(Refusal),
-}
-
+// Whether all ends were read, or the first refusal. A slot past the count is a blank; beside a refusal every slot is.
 pub struct EndsRead {
-    pub answer: EndsAnswer,
+    pub answer: Checked,
     pub ends: [EdgeEnd; 32],
+    pub count: usize,
 }
 
 fn dir_at(s: &[u8], at: usize) -> Dir
@@ -37,8 +28,8 @@ fn dir_at(s: &[u8], at: usize) -> Dir
     ensures { λ r. ⌜ r ≡ dirAt (now (s .entry)) at ⌝ }
 {
     Dir {
-        dx: signed_of(word_at(s, at)),
-        dy: signed_of(word_at(s, at + 4)),
+        dx: signed_of(four_bytes_at(s, at)),
+        dy: signed_of(four_bytes_at(s, at + 4)),
     }
 }
 
@@ -62,7 +53,9 @@ fn end_read(s: &[u8], at: usize) -> EdgeEnd
     EdgeEnd { dir: d, label: l }
 }
 
-fn no_end() -> EdgeEnd {
+fn no_end() -> EdgeEnd
+    ensures { λ r. ⌜ r ≡ noEnd ⌝ }
+{
     let l = blank();
     EdgeEnd {
         dir: Dir { dx: 0, dy: 0 },
@@ -70,54 +63,51 @@ fn no_end() -> EdgeEnd {
     }
 }
 
+// No ends beside an answer.
+fn none_read(answer: Checked) -> EndsRead
+    ensures { λ r. ⌜ r ≡ noneRead answer ⌝ }
+{
+    EndsRead {
+        answer,
+        ends: [no_end(); 32],
+        count: 0,
+    }
+}
+
 // n ends from a place on.
 pub(crate) fn ends_at(s: &[u8], at: usize, n: usize) -> EndsRead
     requires { ⌜ (n ≤ 32) × (at + 15 * n ≤ length (now s)) ⌝ }
-    ensures { λ r. ⌜ (readEnds n (now (s .entry)) at ≡ endsOf (r .answer) (take n (r .ends))) × (length (r .ends) ≡ 32) ⌝ }
+    ensures { λ r. ⌜ r ≡ endsRead (readEnds n (now (s .entry)) at) ⌝ }
 {
     let mut ends = [no_end(); 32];
     let mut i: usize = 0;
     let mut p = at;
     while i < n {
-        match end_fault(s, p) {
-            Checked::Fine => {
-                ends[i] = end_read(s, p);
-            }
-            Checked::Refused(r) => {
-                return EndsRead {
-                    answer: EndsAnswer::Refused(r),
-                    ends: ends,
-                };
-            }
-        }
+        let fault = end_fault(s, p);
+        let Checked::Fine = fault else {
+            return none_read(fault);
+        };
+        ends[i] = end_read(s, p);
         i += 1;
         p += 15;
     }
     EndsRead {
-        answer: EndsAnswer::Read,
-        ends: ends,
+        answer: Checked::Fine,
+        ends,
+        count: n,
     }
 }
 
 // Bytes that are all ends, as a star or a bundle call takes them: no whole ends are 4, more than 32 are 5.
 pub fn read_ends(s: &[u8]) -> EndsRead
-    ensures { λ r. ⌜ (endsCall (now (s .entry)) ≡ endsOf (r .answer) (take (length (now (s .entry)) / 15) (r .ends))) × (length (r .ends) ≡ 32) ⌝ }
+    ensures { λ r. ⌜ r ≡ endsCallOf (now (s .entry)) ⌝ }
 {
     let n = s.len() / 15;
     if s.len() % 15 != 0 {
-        return unread(Refusal::Length);
+        return none_read(Checked::Refused(Refusal::Length));
     }
     if 32 < n {
-        return unread(Refusal::Ends);
+        return none_read(Checked::Refused(Refusal::Ends));
     }
     ends_at(s, 0, n)
-}
-
-fn unread(r: Refusal) -> EndsRead
-    ensures { λ x. ⌜ (x .answer ≡ EndsAnswer.Refused r) × (length (x .ends) ≡ 32) ⌝ }
-{
-    EndsRead {
-        answer: EndsAnswer::Refused(r),
-        ends: [no_end(); 32],
-    }
 }

@@ -1,39 +1,18 @@
 // A label's seven bytes: kind, then on, left, right for A, then for B. Refused in order: kind (7), codes (6), sides (7).
 // What is wrong is asked first, and then the bytes are read as if they were good: no value is built to be thrown away.
-use de9im::coordinate_position::Coded;
+use de9im::answer::Checked;
 use de9im::coordinate_position::Position;
-use de9im::coordinate_position::position_coded;
 use de9im::refusal::Refusal;
-use star::edge_end::Checked;
 use star::label::Label;
 use star::topology_position::Sides;
 ghost use mathlib.Core.Path.{_≡_};
 ghost use Prim.Native.Nat.{_+_, _≤_};
 ghost use lib.Dec.{ltb};
 ghost use lib.ListN.{length};
-ghost use Rattle.de9im.specs.Position.{codedOf};
-ghost use Rattle.plan.specs.LabelBytes.{labelAt};
-ghost use Rattle.plan.specs.Reading.{knownOf, goodThree, bareThree, threeRead, labelFault, labelRead};
-
-// What a half's three bytes say, or that one is no code: only the definitions speak of it.
-pub enum SidesRead {
-    Is(Sides),
-    Bad,
-}
-
-pub enum LabelRead {
-    Is(Label),
-    Bad(Refusal),
-}
-
-pub(crate) fn coded(b: u8) -> Coded
-    ensures { λ r. ⌜ r ≡ codedOf b ⌝ }
-{
-    position_coded(b as u32)
-}
+ghost use Rattle.plan.specs.Inner.Reading.{knownOf, goodThree, bareThree, threeRead, labelFault, labelRead};
 
 // The position of a code that is good; a code above 3 never gets here, and would be Outside.
-fn known(b: u8) -> Position
+pub(crate) fn known(b: u8) -> Position
     ensures { λ r. ⌜ r ≡ knownOf b ⌝ }
 {
     match b {
@@ -44,7 +23,7 @@ fn known(b: u8) -> Position
     }
 }
 
-fn good_code(b: u8) -> bool
+pub(crate) fn good_code(b: u8) -> bool
     ensures { λ r. ⌜ r ≡ ltb b 4 ⌝ }
 {
     b < 4
@@ -106,15 +85,5 @@ pub(crate) fn label_fault(s: &[u8], at: usize) -> Checked
         Checked::Fine
     } else {
         Checked::Refused(Refusal::LabelKind)
-    }
-}
-
-pub(crate) fn label_at(s: &[u8], at: usize) -> LabelRead
-    requires { ⌜ at + 7 ≤ length (now s) ⌝ }
-    ensures { λ r. ⌜ r ≡ labelAt (now (s .entry)) at ⌝ }
-{
-    match label_fault(s, at) {
-        Checked::Fine => LabelRead::Is(label_read(s, at)),
-        Checked::Refused(r) => LabelRead::Bad(r),
     }
 }

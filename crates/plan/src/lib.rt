@@ -1,14 +1,8 @@
 // Plan records and stored reports: from bytes to nine letters, over the star.
 pub mod end_bytes;
-pub mod label_bytes;
+mod handing_on;
+mod label_bytes;
+mod node_bytes;
 pub mod record;
 pub mod report;
 pub mod words;
-
-use de9im::refusal::Refusal;
-
-// What a call on bytes answers: how many it used, or why it refused.
-pub enum Answer {
-    Used(usize),
-    Refused(Refusal),
-}

@@ -1,144 +1,116 @@
 // Plan records: kind 1, a node with its ends, and kind 2, an isolated edge, checked in document 01's order and poured.
-use crate::Answer;
-use crate::end_bytes::EndsAnswer;
 use crate::end_bytes::ends_at;
-use crate::label_bytes::LabelRead;
-use crate::label_bytes::coded;
-use crate::label_bytes::label_at;
-use crate::words::half_of;
+use crate::handing_on::none_used;
+use crate::label_bytes::label_fault;
+use crate::label_bytes::label_read;
+use crate::node_bytes::node_fault;
+use crate::node_bytes::node_read;
+use crate::words::two_bytes;
 use crate::words::wide;
+use de9im::answer::Answer;
+use de9im::answer::BytesAnswer;
+use de9im::answer::Checked;
 use de9im::cells::Cells;
-use de9im::coordinate_position::Coded;
 use de9im::refusal::Refusal;
 use star::edge_end::EdgeEnd;
-use star::edge_end_bundle_star::StarAnswer;
 use star::pouring::Node;
 use star::pouring::pour_edge;
 use star::pouring::pour_star;
-use star::topology_position::is_none;
 ghost use mathlib.Core.Path.{_≡_};
 ghost use Prim.Native.Nat.{_+_, _*_, _≤_};
 ghost use lib.ListN.{length, take};
 ghost use Rattle.star.specs.Ends.{Sound};
-ghost use Rattle.plan.specs.EndBytes.{good};
-ghost use Rattle.plan.specs.Words.{byteAt, halfAt};
-ghost use Rattle.plan.specs.Record.{refusedAs, edgeWith, edgeOf, nodeWith, nodeAt, withEnds, withNode, nodeOf, recordOf};
+ghost use Rattle.plan.specs.Words.{byteAt, promised};
+ghost use Rattle.plan.specs.Said.{edgeOf, withEnds, nodeBody, nodeOf};
+ghost use Rattle.plan.specs.Record.{refusedAs, pouredBy, recordOf};
 
-// The answer to a record's bytes, with the matrix beside it: a refusal hands the given numbers back as they came.
-pub struct RecordAnswer {
-    pub answer: Answer,
-    pub cells: Cells,
-}
-
-pub enum NodeRead {
-    Is(Node),
-    Bad,
-}
-
-fn refused(r: Refusal, cells: Cells) -> RecordAnswer
+fn refused(r: Refusal, cells: Cells) -> BytesAnswer
     ensures { λ x. ⌜ x ≡ refusedAs r cells ⌝ }
 {
-    RecordAnswer {
+    BytesAnswer {
         answer: Answer::Refused(r),
         cells,
     }
 }
 
-fn edge_with(cells: Cells, l: LabelRead) -> RecordAnswer
-    ensures { λ x. ⌜ x ≡ edgeWith cells l ⌝ }
-{
-    match l {
-        LabelRead::Is(x) => RecordAnswer {
-            answer: Answer::Used(11),
-            cells: pour_edge(cells, x),
-        },
-        LabelRead::Bad(r) => refused(r, cells),
-    }
-}
-
 // Kind 2, of n bytes.
-fn edge_record(cells: Cells, s: &[u8], n: usize) -> RecordAnswer
-    requires { ⌜ (n ≡ halfAt (now s) 0) × (2 + n ≤ length (now s)) ⌝ }
-    ensures { λ x. ⌜ x ≡ edgeOf cells (now (s .entry)) ⌝ }
+fn edge_record(cells: Cells, s: &[u8], n: usize) -> BytesAnswer
+    requires { ⌜ (n ≡ promised (now s)) × (2 + n ≤ length (now s)) ⌝ }
+    ensures { λ x. ⌜ x ≡ pouredBy cells (2 + promised (now (s .entry))) (edgeOf (now (s .entry))) ⌝ }
 {
     if n != 9 {
         return refused(Refusal::Length, cells);
     }
-    edge_with(cells, label_at(s, 4))
-}
-
-fn node_with(a: Coded, b: Coded, p: Coded, q: Coded) -> NodeRead
-    ensures { λ x. ⌜ x ≡ nodeWith a b p q ⌝ }
-{
-    let Coded::Is(na) = a else {
-        return NodeRead::Bad;
+    let fault = label_fault(s, 4);
+    let Checked::Fine = fault else {
+        return BytesAnswer {
+            answer: none_used(fault),
+            cells,
+        };
     };
-    let Coded::Is(nb) = b else {
-        return NodeRead::Bad;
-    };
-    let Coded::Is(pa) = p else {
-        return NodeRead::Bad;
-    };
-    let Coded::Is(pb) = q else {
-        return NodeRead::Bad;
-    };
-    if is_none(na) | is_none(nb) {
-        return NodeRead::Bad;
+    let l = label_read(s, 4);
+    BytesAnswer {
+        answer: Answer::Used(2 + n),
+        cells: pour_edge(cells, l),
     }
-    NodeRead::Is(Node {
-        on_a: na,
-        on_b: nb,
-        area_a: pa,
-        area_b: pb,
-    })
 }
 
-fn node_at(s: &[u8]) -> NodeRead
-    requires { ⌜ 8 ≤ length (now s) ⌝ }
-    ensures { λ x. ⌜ x ≡ nodeAt (now (s .entry)) ⌝ }
-{
-    node_with(coded(s[4]), coded(s[5]), coded(s[6]), coded(s[7]))
-}
-
-// The star of checked ends, poured over its node.
-fn poured(cells: Cells, used: usize, at: Node, ends: [EdgeEnd; 32], n: usize) -> RecordAnswer
+// The star of checked ends, poured over its node; a star without a left is refused last.
+fn pour_node_star(
+    cells: Cells,
+    used: usize,
+    node: Node,
+    ends: [EdgeEnd; 32],
+    n: usize,
+) -> BytesAnswer
     requires { ⌜ Sound ends n ⌝ }
-    ensures { λ x. ⌜ x ≡ withEnds cells used at (good (take n ends)) ⌝ }
+    ensures { λ x. ⌜ x ≡ pouredBy cells used (withEnds node (take n ends)) ⌝ }
 {
-    let done = pour_star(cells, at, ends, n);
+    let done = pour_star(cells, node, ends, n);
     let answer = done.answer;
+    let Checked::Fine = answer else {
+        return BytesAnswer {
+            answer: none_used(answer),
+            cells,
+        };
+    };
     let raised = done.cells;
-    match answer {
-        StarAnswer::Completed => RecordAnswer {
-            answer: Answer::Used(used),
-            cells: raised,
-        },
-        StarAnswer::Refused(r) => refused(r, cells),
+    BytesAnswer {
+        answer: Answer::Used(used),
+        cells: raised,
     }
 }
 
-// A node whose count and length are right.
-fn with_node(cells: Cells, s: &[u8], used: usize, n: usize, node: NodeRead) -> RecordAnswer
-    requires { ⌜ (used ≡ 2 + halfAt (now s) 0) × (n ≡ byteAt (now s) 8) ⌝ }
+// A node of n ends whose count and length are right.
+fn node_body(cells: Cells, s: &[u8], used: usize, n: usize) -> BytesAnswer
+    requires { ⌜ n ≡ byteAt (now s) 8 ⌝ }
     requires { ⌜ (n ≤ 32) × (9 + 15 * n ≤ length (now s)) ⌝ }
-    ensures { λ x. ⌜ x ≡ withNode cells (now (s .entry)) node ⌝ }
+    ensures { λ x. ⌜ x ≡ pouredBy cells used (nodeBody (now (s .entry))) ⌝ }
 {
-    let NodeRead::Is(at) = node else {
-        return refused(Refusal::PositionCode, cells);
+    let fault = node_fault(s);
+    let Checked::Fine = fault else {
+        return BytesAnswer {
+            answer: none_used(fault),
+            cells,
+        };
     };
     let read = ends_at(s, 9, n);
     let answer = read.answer;
+    let Checked::Fine = answer else {
+        return BytesAnswer {
+            answer: none_used(answer),
+            cells,
+        };
+    };
     let ends = read.ends;
-    match answer {
-        EndsAnswer::Read => poured(cells, used, at, ends, n),
-        EndsAnswer::Refused(r) => refused(r, cells),
-    }
+    let node = node_read(s);
+    pour_node_star(cells, used, node, ends, n)
 }
 
 // Kind 1, of n bytes.
-fn node_record(cells: Cells, s: &[u8], n: usize) -> RecordAnswer
-    requires { ⌜ (n ≡ halfAt (now s) 0) × (2 + n ≤ length (now s)) ⌝ }
-    ensures { λ x. ⌜ x ≡ nodeOf cells (now (s .entry)) ⌝ }
+fn node_record(cells: Cells, s: &[u8], n: usize) -> BytesAnswer
+    requires { ⌜ (n ≡ promised (now s)) × (2 + n ≤ length (now s)) ⌝ }
+    ensures { λ x. ⌜ x ≡ pouredBy cells (2 + promised (now (s .entry))) (nodeOf (now (s .entry))) ⌝ }
 {
     if n < 7 {
         return refused(Refusal::Length, cells);
@@ -150,17 +122,17 @@ fn node_record(cells: Cells, s: &[u8], n: usize) -> RecordAnswer
     if n != 7 + 15 * count {
         return refused(Refusal::Length, cells);
     }
-    with_node(cells, s, 2 + n, count, node_at(s))
+    node_body(cells, s, 2 + n, count)
 }
 
 // One record from the front of s; bytes after it don't matter.
-pub fn record(cells: Cells, s: &[u8]) -> RecordAnswer
+pub fn record(cells: Cells, s: &[u8]) -> BytesAnswer
     ensures { λ x. ⌜ x ≡ recordOf cells (now (s .entry)) ⌝ }
 {
     if s.len() < 2 {
         return refused(Refusal::Short, cells);
     }
-    let n = half_of(s[0], s[1]);
+    let n = two_bytes(s[0], s[1]);
     if s.len() - 2 < n {
         return refused(Refusal::Short, cells);
     }

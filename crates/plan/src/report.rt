@@ -1,10 +1,12 @@
 // A stored report: twelve bytes, 00 0A, version 01, nine letters of the matrix. Read, and written into a lent buffer.
-use crate::Answer;
-use crate::words::half_of;
+use crate::handing_on::none_used;
+use crate::words::two_bytes;
+use de9im::answer::Answer;
+use de9im::answer::BytesAnswer;
+use de9im::answer::Checked;
 use de9im::cells::Cells;
 use de9im::cells::from_cells;
 use de9im::refusal::Refusal;
-use de9im::text::Parsed;
 use de9im::text::from_str;
 use de9im::text::to_text;
 ghost use mathlib.Core.Path.{_≡_};
@@ -12,18 +14,12 @@ ghost use mathlib.Core.List.{_++_};
 ghost use Prim.Native.Nat.{_≤_};
 ghost use lib.Dec.{eqb};
 ghost use lib.ListN.{length, drop};
-ghost use Rattle.plan.specs.Words.{halfOf};
-ghost use Rattle.plan.specs.Report.{noReport, lettersOf, readReport, reportBytes, wroteOf, writtenOf};
-
-// The answer to a report's bytes, with the matrix beside it: nine zeros beside a refusal.
-pub struct ReportAnswer {
-    pub answer: Answer,
-    pub cells: Cells,
-}
+ghost use Rattle.plan.specs.Words.{twoBytes};
+ghost use Rattle.plan.specs.Report.{noReport, lettersOf, reportAs, readReport, reportBytes, wroteOf, writtenOf};
 
 // The header's length field, byte by byte.
 fn is_ten(a: u8, b: u8) -> bool
-    ensures { λ r. ⌜ r ≡ eqb (halfOf a b) 10 ⌝ }
+    ensures { λ r. ⌜ r ≡ eqb (twoBytes a b) 10 ⌝ }
 {
     let head = b"\x00\x0a\x01";
     (a == head[0]) & (b == head[1])
@@ -36,39 +32,42 @@ fn is_version(v: u8) -> bool
     v == head[2]
 }
 
-fn refused(r: Refusal) -> ReportAnswer
+fn refused(r: Refusal) -> BytesAnswer
     ensures { λ a. ⌜ a ≡ noReport r ⌝ }
 {
-    ReportAnswer {
+    BytesAnswer {
         answer: Answer::Refused(r),
         cells: [0u8; 9],
     }
 }
 
 // The nine letters.
-fn letters(s: &[u8]) -> ReportAnswer
-    ensures { λ r. ⌜ r ≡ lettersOf (now (s .entry)) ⌝ }
+fn letters(s: &[u8]) -> BytesAnswer
+    ensures { λ r. ⌜ r ≡ reportAs (lettersOf (now (s .entry))) ⌝ }
 {
     let read = from_str(s);
-    let parsed = read.parsed;
+    let answer = read.answer;
+    let Checked::Fine = answer else {
+        return BytesAnswer {
+            answer: none_used(answer),
+            cells: [0u8; 9],
+        };
+    };
     let cells = read.cells;
-    match parsed {
-        Parsed::Accepted => ReportAnswer {
-            answer: Answer::Used(12),
-            cells,
-        },
-        Parsed::Refused(r) => refused(r),
+    BytesAnswer {
+        answer: Answer::Used(12),
+        cells,
     }
 }
 
 // Later bytes don't matter.
-pub fn read_report(s: &[u8]) -> ReportAnswer
+pub fn read_report(s: &[u8]) -> BytesAnswer
     ensures { λ r. ⌜ r ≡ readReport (now (s .entry)) ⌝ }
 {
     if s.len() < 2 {
         return refused(Refusal::Short);
     }
-    if s.len() - 2 < half_of(s[0], s[1]) {
+    if s.len() - 2 < two_bytes(s[0], s[1]) {
         return refused(Refusal::Short);
     }
     if !is_ten(s[0], s[1]) {

@@ -2,7 +2,7 @@
 ghost use mathlib.Core.Path.{_≡_};
 ghost use Prim.Native.Nat.{_+_, _≤_, _<_};
 ghost use lib.ListN.{length};
-ghost use Rattle.plan.specs.Words.{halfOf, wordOf, wordAt, signedOf};
+ghost use Rattle.plan.specs.Words.{twoBytes, fourBytes, fourBytesAt, signedOf};
 
 pub(crate) fn wide(x: u8) -> u64
     ensures { λ r. ⌜ (r ≡ x) × (r < 256) ⌝ }
@@ -10,23 +10,23 @@ pub(crate) fn wide(x: u8) -> u64
     x as u64
 }
 
-pub fn half_of(a: u8, b: u8) -> usize
-    ensures { λ r. ⌜ (r ≡ halfOf a b) × (r < 65536) ⌝ }
+pub fn two_bytes(a: u8, b: u8) -> usize
+    ensures { λ r. ⌜ (r ≡ twoBytes a b) × (r < 65536) ⌝ }
 {
     (wide(a) * 256 + wide(b)) as usize
 }
 
-fn word_of(a: u8, b: u8, c: u8, d: u8) -> u64
-    ensures { λ r. ⌜ (r ≡ wordOf a b c d) × (r < 4294967296) ⌝ }
+fn four_bytes(a: u8, b: u8, c: u8, d: u8) -> u64
+    ensures { λ r. ⌜ (r ≡ fourBytes a b c d) × (r < 4294967296) ⌝ }
 {
     ((wide(a) * 256 + wide(b)) * 256 + wide(c)) * 256 + wide(d)
 }
 
-pub(crate) fn word_at(s: &[u8], at: usize) -> u64
+pub(crate) fn four_bytes_at(s: &[u8], at: usize) -> u64
     requires { ⌜ at + 4 ≤ length (now s) ⌝ }
-    ensures { λ r. ⌜ (r ≡ wordAt (now (s .entry)) at) × (r < 4294967296) ⌝ }
+    ensures { λ r. ⌜ (r ≡ fourBytesAt (now (s .entry)) at) × (r < 4294967296) ⌝ }
 {
-    word_of(s[at], s[at + 1], s[at + 2], s[at + 3])
+    four_bytes(s[at], s[at + 1], s[at + 2], s[at + 3])
 }
 
 // Two's complement.

@@ -1,87 +1,24 @@
-// Replays stored answers of the crate geo 0.33.1, and GEOS's of points and boxes, against the library's C interface and
-// prints how many were replayed and how many differ. The answers stand in the file `stdin`, where lines that begin with '#'
-// say how it was made and how to make it again.
-mod line;
-mod place_sample;
-mod plan_sample;
-mod sample;
+// Replays stored answers of the crate geo 0.33.1, of GEOS and of document 01's rules against the library's C interface, and
+// prints how many were replayed and how many differ. The answers stand in the file `stdin`, a case to a line; lines that begin
+// with '#' say how it was made, how to make it again, and which case has its answer from where.
+mod case;
+mod matrix_calls;
+mod plan_calls;
 
 use libc::STDIN_FILENO;
 use libc::STDOUT_FILENO;
 ghost use Prim.Native.Nat.{_+_, _≤_};
+ghost use lib.ListN.{length};
 
-// How many samples were replayed, and how many of them the library answers otherwise.
+// How many cases were replayed, and how many of them the library answers otherwise.
 struct Tally {
     seen: u64,
     differ: u64,
 }
 
-// What the next byte of the input is.
-enum Next {
-    Byte(u8),
-    End,
-}
-
-fn next_byte() -> Next {
-    let mut one = [0u8; 1];
-    let n = io::read_full(STDIN_FILENO, &mut one);
-    if n == 0 {
-        return Next::End;
-    }
-    Next::Byte(one[0])
-}
-
-// The rest of a line that begins with '#': at most 4,096 bytes.
-fn skip_line() {
-    for _ in 0..4096u32 {
-        let Next::Byte(b) = next_byte() else {
-            break;
-        };
-        if b == b'\n' {
-            break;
-        }
-    }
-}
-
-// The rest of a line that begins with 'G'.
-fn replay_places() -> bool {
-    let mut line = [0u8; 43];
-    let n = io::read_full(STDIN_FILENO, &mut line);
-    (n == 43) & place_sample::agrees(place_sample::decoded(line))
-}
-
-// The rest of a line that begins with 'N'.
-fn replay_record() -> bool {
-    let mut line = [0u8; 177];
-    let n = io::read_full(STDIN_FILENO, &mut line);
-    (n == 177) & plan_sample::record_agrees(plan_sample::decoded_record(line))
-}
-
-// The rest of a line that begins with 'K'.
-fn replay_star() -> bool {
-    let mut line = [0u8; 191];
-    let n = io::read_full(STDIN_FILENO, &mut line);
-    (n == 191) & plan_sample::star_agrees(plan_sample::decoded_star(line))
-}
-
-// A sample whose kind was read already; a line that is cut short agrees with nothing.
-fn replay_one(kind: u8) -> bool {
-    if kind == b'G' {
-        return replay_places();
-    }
-    if kind == b'N' {
-        return replay_record();
-    }
-    if kind == b'K' {
-        return replay_star();
-    }
-    let mut line = [0u8; 73];
-    let n = io::read_full(STDIN_FILENO, &mut line);
-    (n == 73) & sample::agrees(kind, line::decoded(line))
-}
-
-fn with_sample(t: Tally, agrees: bool) -> Tally
-    requires { ⌜ (t .seen ≤ 1000000) × (t .differ ≤ t .seen) ⌝ }
+// A case that agrees, or not.
+fn with_case(t: Tally, agrees: bool) -> Tally
+    requires { ⌜ (t .seen ≤ 4194304) × (t .differ ≤ t .seen) ⌝ }
     ensures { λ r. ⌜ (r .seen ≤ 1 + t .seen) × (r .differ ≤ r .seen) ⌝ }
 {
     if agrees {
@@ -96,32 +33,43 @@ fn with_sample(t: Tally, agrees: bool) -> Tally
     }
 }
 
-// One line, whose first byte was read already.
-fn with_line(t: Tally, kind: u8) -> Tally
-    requires { ⌜ (t .seen ≤ 1000000) × (t .differ ≤ t .seen) ⌝ }
+// A line without its end. One that is empty, or a note, counts for nothing.
+fn with_line(t: Tally, line: &[u8]) -> Tally
+    requires { ⌜ (t .seen ≤ 4194304) × (t .differ ≤ t .seen) ⌝ }
     ensures { λ r. ⌜ (r .seen ≤ 1 + t .seen) × (r .differ ≤ r .seen) ⌝ }
 {
-    if kind == b'#' {
-        skip_line();
+    if line.len() == 0 {
         return t;
     }
-    with_sample(t, replay_one(kind))
+    let letter = line[0];
+    if letter == b'#' {
+        return t;
+    }
+    with_case(t, case::agrees(letter, case::decoded(&line[1..])))
 }
 
-// All lines of the input, a million at the most.
-fn replay_all() -> Tally {
+fn replay(file: &[u8]) -> Tally
+    requires { ⌜ length (now file) ≤ 4194304 ⌝ }
+{
     let mut t = Tally { seen: 0, differ: 0 };
-    for _ in 0..1000000u32 {
-        let Next::Byte(kind) = next_byte() else {
-            break;
-        };
-        t = with_line(t, kind);
+    let mut at: usize = 0;
+    while at < file.len() {
+        let end = bytes::scan::find(file, at, file.len(), b'\n');
+        t = with_line(t, &file[at..end]);
+        at = end + 1;
     }
     t
 }
 
+// Room for the whole file.
+fn room() -> [u8; 4194304] {
+    [0; 4194304]
+}
+
 fn main() {
-    let t = replay_all();
+    let mut file = room();
+    let n = io::read_full(STDIN_FILENO, &mut file);
+    let t = replay(&file[..n]);
     io::print_decimal(STDOUT_FILENO, t.seen);
     io::write_all(STDOUT_FILENO, b" replayed, ");
     io::print_decimal(STDOUT_FILENO, t.differ);

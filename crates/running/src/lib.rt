@@ -3,4 +3,3 @@
 pub mod by_value;
 pub mod kept;
 pub mod lent;
-pub mod through;

@@ -1,22 +1,38 @@
 -- One walk, which starts at what a none becomes where no area bundle has a left, makes the completed star. Assumes nothing.
 -- Why it does: where some area bundle has a left, a star that isn't refused has no right alone, so what is current is never none and
 -- the walk leaves no none to fill. Where none has, the walk does nothing, and a none becomes the same position everywhere.
-use Prim.Native.Nat.{ℕ}
-use native.Mathlib.Omega.{arith}
 use mathlib.Core.Path.{_≡_, refl, sym, _∙_}
-use mathlib.Core.Bool.{Bool, true, false, not, _&&_, _||_}
+use mathlib.Core.Bool.{Bool, true, false, not, _&&_}
 use mathlib.Core.List.{List, [], _∷_, map}
 use mathlib.Core.Logic.{_⊎_, inl, inr}
 use Rattle.de9im.specs.declared.«coordinate_position».Position.{Position}
 use Rattle.de9im.specs.declared.«coordinate_position».Position.the-variants.{None}
+use Rattle.de9im.proofs.LawsApart.{true-false}
+use Rattle.de9im.proofs.LawsBool.{neither}
 use Rattle.star.specs.declared.«topology_position».Sides.{Sides}
 use Rattle.star.specs.declared.label.Geometry.{Geometry}
 use Rattle.star.specs.declared.label.Geometry.the-variants.{A, B}
 use Rattle.star.specs.declared.label.Label.{Label}
 use Rattle.star.specs.declared.«edge_end_bundle_star».Current.{Current}
 use Rattle.star.specs.Label.{halfOf, isNone, orElse}
-use Rattle.star.specs.Completing.{startOf, walkSides, walkNext, any, hasLeft, rightAlone, missing, missingLeft, lastOf, collapses, restOf, fillSides, fillLabel, filledOf, completedOf}
-use Rattle.star.specs.Walking.{
+use Rattle.star.specs.Completing.{
+  startOf,
+  walkSides,
+  walkNext,
+  any,
+  hasLeft,
+  rightAlone,
+  missing,
+  missingLeft,
+  lastOf,
+  collapses,
+  restOf,
+  fillSides,
+  fillLabel,
+  filledOf,
+  completedOf,
+}
+use Rattle.star.specs.Inner.Walking.{
   scan,
   completeSides,
   completeNext,
@@ -30,18 +46,9 @@ use Rattle.star.specs.Walking.{
 }
 use Rattle.star.proofs.LawsWalk.{walkLabel, nextLabel, walkBoth, by-none, is-none, or-self, start-left, walked-both}
 
-never : {X : Type 0} → true ≡ false → X
-never e = absurd (let z : _≡_ {A = ℕ} 0 1 = cc in omega arith)
+-- ---- one half, and what is current after it
 
-or-left : (t u : Bool) → (t || u) ≡ false → t ≡ false
-or-left false u e = refl
-or-left true u e = e
-
-or-right : (t u : Bool) → (t || u) ≡ false → u ≡ false
-or-right false u e = e
-or-right true u e = never e
-
--- one half, with a known position current and no right alone
+-- with a known position current and no right alone
 known-sides : (area : Bool) (r cur : Position) (s : Sides) → isNone cur ≡ false
     → (area && (not (isNone (s .right)) && isNone (s .left))) ≡ false → fillSides area r (walkSides area cur s) ≡ completeSides area cur s
 known-sides area r cur s k e = go area (isNone (s .on)) (isNone (s .right)) (isNone (s .left)) refl refl refl e
@@ -49,12 +56,12 @@ known-sides area r cur s k e = go area (isNone (s .on)) (isNone (s .right)) (isN
     go : (ar o t l : Bool) → isNone (s .on) ≡ o → isNone (s .right) ≡ t → isNone (s .left) ≡ l
         → (ar && (not (isNone (s .right)) && isNone (s .left))) ≡ false → fillSides ar r (walkSides ar cur s) ≡ completeSides ar cur s
     go false true t l a b c d = simp (a, k)
-    go false false t l a b c d = simp (a, k)
+    go false false t l a b c d = simp a
     go true true true l a b c d = simp (a, b, k)
     go true false true l a b c d = simp (a, b, k)
     go true true false false a b c d = simp (a, b, c, k)
-    go true false false false a b c d = simp (a, b, c, k)
-    go true o false true a b c d = never (rw (b, c) at d)
+    go true false false false a b c d = simp (a, b, c)
+    go true o false true a b c d = true-false (rw (b, c) at d)
 
 known-next : (area : Bool) (cur : Position) (s : Sides) → isNone cur ≡ false
     → (area && (not (isNone (s .right)) && isNone (s .left))) ≡ false
@@ -67,9 +74,9 @@ known-next area cur s k e = go area (isNone (s .right)) (isNone (s .left)) refl 
     go false t l b c d = (refl, k)
     go true true l b c d = (simp b, simp (b, k))
     go true false false b c d = (simp (b, c), simp (b, c))
-    go true false true b c d = never (rw (b, c) at d)
+    go true false true b c d = true-false (rw (b, c) at d)
 
--- one half, with nothing current and no left
+-- with nothing current and no left
 none-sides : (area : Bool) (r : Position) (s : Sides) → (area && not (isNone (s .left))) ≡ false
     → fillSides area r (walkSides area None s) ≡ completeSides area r s
 none-sides area r s e = go area (isNone (s .on)) (isNone (s .right)) (isNone (s .left)) refl refl refl e
@@ -82,7 +89,7 @@ none-sides area r s e = go area (isNone (s .on)) (isNone (s .right)) (isNone (s 
     go true false true l a b c d = simp (a, b)
     go true true false true a b c d = simp (a, b, c)
     go true false false true a b c d = simp (a, b, c)
-    go true o false false a b c d = never (rw c at d)
+    go true o false false a b c d = true-false (rw c at d)
 
 none-next : (area : Bool) (r : Position) (s : Sides) → (area && not (isNone (s .left))) ≡ false
     → (walkNext area None s ≡ None) × (completeNext area r s ≡ r)
@@ -93,7 +100,9 @@ none-next area r s e = go area (isNone (s .right)) (isNone (s .left)) refl refl 
     go false t l b c d = (refl, refl)
     go true true l b c d = (simp b, simp b)
     go true false true b c d = (rw (b, is-none (s .left) c) refl, simp (b, c))
-    go true false false b c d = never (rw c at d)
+    go true false false b c d = true-false (rw c at d)
+
+-- ---- all labels
 
 -- what is current in the walks of document 01 and in the one walk, before labels ls: a known position and no right alone to come, or
 -- nothing, what a none becomes, and no left to come
@@ -106,18 +115,18 @@ module _ (g : Geometry) (r cur c : Position) (l : Label) (ls : List Label) where
       → fillSides (l .area) r (walkSides (l .area) cur (halfOf g l)) ≡ completeSides (l .area) c (halfOf g l)
   unfolding any
   half-now (inl (k, e, h)) =
-      rw e (known-sides (l .area) r cur (halfOf g l) k (or-left (rightAlone g l) (any (rightAlone g) ls) h))
-  half-now (inr (n, e, h)) = rw (n, e) (none-sides (l .area) r (halfOf g l) (or-left (hasLeft g l) (any (hasLeft g) ls) h))
+      rw e (known-sides (l .area) r cur (halfOf g l) k (neither (rightAlone g l) (any (rightAlone g) ls) h .0))
+  half-now (inr (n, e, h)) = rw (n, e) (none-sides (l .area) r (halfOf g l) (neither (hasLeft g l) (any (hasLeft g) ls) h .0))
 
   half-next : Together g r cur c (l ∷ ls)
       → Together g r (walkNext (l .area) cur (halfOf g l)) (completeNext (l .area) c (halfOf g l)) ls
   unfolding any
   half-next (inl (k, e, h)) =
-      let n = known-next (l .area) cur (halfOf g l) k (or-left (rightAlone g l) (any (rightAlone g) ls) h) in
-      inl (n .1, rw e (n .0), or-right (rightAlone g l) (any (rightAlone g) ls) h)
+      let n = known-next (l .area) cur (halfOf g l) k (neither (rightAlone g l) (any (rightAlone g) ls) h .0) in
+      inl (n .1, rw e (n .0), neither (rightAlone g l) (any (rightAlone g) ls) h .1)
   half-next (inr (z, e, h)) =
-      let n = none-next (l .area) r (halfOf g l) (or-left (hasLeft g l) (any (hasLeft g) ls) h) in
-      inr (rw z (n .0), rw e (n .1), or-right (hasLeft g l) (any (hasLeft g) ls) h)
+      let n = none-next (l .area) r (halfOf g l) (neither (hasLeft g l) (any (hasLeft g) ls) h .0) in
+      inr (rw z (n .0), rw e (n .1), neither (hasLeft g l) (any (hasLeft g) ls) h .1)
 
 -- the walks of document 01, then filling, are the one walk
 fill-walk : (ra rb : Position) (c d : Current) (ls : List Label) → Together A ra (c .a) (d .a) ls → Together B rb (c .b) (d .b) ls
@@ -131,6 +140,8 @@ fill-walk ra rb c d (l ∷ ls) ta tb =
       fill-walk ra rb (nextLabel c l) (completeCurrent d l) ls (half-next A ra (c .a) (d .a) l ls ta) (half-next B rb (c .b)
           (d .b) l ls tb),
     ) refl
+
+-- ---- the last label
 
 abbrev currentOf : Geometry → Current → Position
 currentOf A c = c .a
@@ -153,13 +164,14 @@ unfolding scan any
 last-kept g c [] e h = refl
 last-kept g c (l ∷ []) e h = one-kept g c l e
 last-kept g c (l ∷ (k ∷ ls)) e h =
-    last-kept g (nextLabel c l) (k ∷ ls) (next-none g c l e (or-left (hasLeft g l) (any (hasLeft g) (k ∷ ls)) h))
-    (or-right (hasLeft g l) (any (hasLeft g) (k ∷ ls)) h)
+    last-kept g (nextLabel c l) (k ∷ ls) (next-none g c l e (neither (hasLeft g l) (any (hasLeft g) (k ∷ ls)) h .0))
+    (neither (hasLeft g l) (any (hasLeft g) (k ∷ ls)) h .1)
 
--- before the first label
-and-right : (t u : Bool) → (t && u) ≡ false → t ≡ true → u ≡ false
-and-right true u e h = e
-and-right false u e h = never (sym h)
+-- ---- before the first label
+
+and-rest : (t u : Bool) → (t && u) ≡ false → t ≡ true → u ≡ false
+and-rest true u e h = e
+and-rest false u e h = true-false (sym h)
 
 start-together : (g : Geometry) (p : Position) (c : Current) (ls : List Label) → currentOf g c ≡ startOf g ls → missing g ls ≡ false
     → Together g (restOf (collapses g (lastOf (walkBoth c ls))) p) (startOf g ls)
@@ -170,7 +182,7 @@ start-together g p c ls e m = go (by-none (startOf g ls))
         → Together g (restOf (collapses g (lastOf (walkBoth c ls))) p) (startOf g ls)
         (orElse (startOf g ls) (restOf (collapses g (lastOf ls)) p)) ls
     go (inl k) =
-        inl (k, rw k refl, and-right (any (hasLeft g) ls) (any (rightAlone g) ls) m (sym (start-left g ls) ∙ rw k refl))
+        inl (k, rw k refl, and-rest (any (hasLeft g) ls) (any (rightAlone g) ls) m (sym (start-left g ls) ∙ rw k refl))
     go (inr z) =
         let h : any (hasLeft g) ls ≡ false = sym (start-left g ls) ∙ rw z refl in
         inr (z, rw (z, last-kept g c ls (e ∙ z) h) refl, h)
@@ -183,5 +195,5 @@ completed-walk pa pb ls m =
     let c : Current = record { a = startOf A ls; b = startOf B ls } in
     rw (walked-both ls)
     (fill-walk (restOf (collapses A (lastOf (walkBoth c ls))) pa) (restOf (collapses B (lastOf (walkBoth c ls))) pb) c
-    (startsFrom (viewOf ls) pa pb) ls (start-together A pa c ls refl (or-left (missing A ls) (missing B ls) m))
-    (start-together B pb c ls refl (or-right (missing A ls) (missing B ls) m)))
+    (startsFrom (viewOf ls) pa pb) ls (start-together A pa c ls refl (neither (missing A ls) (missing B ls) m .0))
+    (start-together B pb c ls refl (neither (missing A ls) (missing B ls) m .1)))

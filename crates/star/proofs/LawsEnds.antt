@@ -11,8 +11,10 @@ use lib.Seq.{getD-take, length-take-le}
 use Rattle.de9im.specs.declared.refusal.Refusal.{Refusal}
 use Rattle.de9im.specs.declared.refusal.Refusal.the-variants.{Ends, Direction}
 use Rattle.star.specs.declared.«edge_end».EdgeEnd.{EdgeEnd}
-use Rattle.star.specs.declared.«edge_end».Checked.{Checked}
-use Rattle.star.specs.declared.«edge_end».Checked.the-variants.{Fine, Refused}
+use Rattle.de9im.specs.declared.answer.Checked.{Checked}
+use Rattle.de9im.specs.declared.answer.Checked.the-variants.{Fine, Refused}
+use Rattle.de9im.proofs.LawsApart.{fine-refused}
+use Rattle.de9im.proofs.LawsBool.{neither}
 use Rattle.star.specs.Direction.{zeroDir}
 use Rattle.star.specs.Ends.{far, badDir, faultOf, orFault, firstFault, checkedOf, noEnd, Sound}
 use Rattle.star.proofs.LawsLists.{rest, none-left}
@@ -34,9 +36,6 @@ pub fault-end : (ends : List EdgeEnd) (n i : ℕ) → n ≤ i → n ≤ length e
 unfolding firstFault
 fault-end ends n i h k = rw (none-left noEnd ends i n h k) refl
 
-never : {A : Type 0} {r : Refusal} → Refused r ≡ Fine → A
-never e = let z : _≡_ {A = ℕ} 0 1 = cc in absurd (omega arith)
-
 all-fine : (es : List EdgeEnd) → firstFault es ≡ Fine → All (λ e. faultOf e ≡ Fine) es
 unfolding firstFault
 all-fine [] h = none
@@ -45,18 +44,14 @@ all-fine (e ∷ es) h = go (faultOf e) refl h (λ k. all-fine es k)
     go : (c : Checked) → faultOf e ≡ c → orFault c (firstFault es) ≡ Fine → (firstFault es ≡ Fine → All (λ x. faultOf x ≡ Fine) es)
         → All (λ x. faultOf x ≡ Fine) (e ∷ es)
     go Fine f k rec = more f (rec k)
-    go (Refused r) f k rec = never k
-
-or-left : (a b : Bool) → (a || b) ≡ false → a ≡ false
-or-left false b e = refl
-or-left true b e = e
+    go (Refused r) f k rec = fine-refused (sym k)
 
 fine-dir : (e : EdgeEnd) → faultOf e ≡ Fine → zeroDir (e .dir) ≡ false
 fine-dir e h = go (badDir (e .dir)) refl
   where
     go : (b : Bool) → badDir (e .dir) ≡ b → zeroDir (e .dir) ≡ false
-    go true k = never {r = Direction} (sym (rw k refl) ∙ h)
-    go false k = or-left (zeroDir (e .dir)) (far (e .dir .dx) || far (e .dir .dy)) k
+    go true k = fine-refused {r = Direction} (sym h ∙ rw k refl)
+    go false k = neither (zeroDir (e .dir)) (far (e .dir .dx) || far (e .dir .dy)) k .0
 
 -- ends that pass are at most 32, and no direction is 0, 0
 pub checked-sound : (ends : List EdgeEnd) (n : ℕ) → length ends ≡ 32 → checkedOf ends n ≡ Fine → Sound ends n
@@ -64,7 +59,7 @@ unfolding checkedOf
 checked-sound ends n len h = go (ltb 32 n) refl
   where
     go : (b : Bool) → ltb 32 n ≡ b → Sound ends n
-    go true k = never {r = Ends} (sym (rw k refl) ∙ h)
+    go true k = fine-refused {r = Ends} (sym h ∙ rw k refl)
     go false k =
         let f : n ≤ 32 = ltb-false 32 n k in
         let a = all-fine (take n ends) (sym (rw k refl) ∙ h) in

@@ -1,5 +1,5 @@
 -- A star has no more bundles than ends, and its answer holds the completed labels. Assumes nothing.
-use Prim.Native.Nat.{ℕ, suc, _+_, _-_, _≤_}
+use Prim.Native.Nat.{suc, _+_, _-_, _≤_}
 use mathlib.Core.Path.{_≡_, refl, sym, _∙_}
 use mathlib.Core.Bool.{Bool, true, false}
 use mathlib.Core.List.{List, [], _∷_}
@@ -12,7 +12,8 @@ use Rattle.star.specs.declared.«edge_end».EdgeEnd.{EdgeEnd}
 use Rattle.star.specs.declared.«edge_end».Order.{Order}
 use Rattle.star.specs.declared.«edge_end».Order.the-variants.{Before, Same, After}
 use Rattle.star.specs.declared.label.Label.{Label}
-use Rattle.star.specs.declared.«edge_end_bundle_star».StarAnswer.the-variants.{Completed, Refused}
+use Rattle.de9im.specs.declared.answer.Checked.the-variants.{Fine}
+use Rattle.de9im.proofs.LawsApart.{fine-refused}
 use Rattle.de9im.specs.declared.refusal.Refusal.the-variants.{MissingLeft}
 use Rattle.star.specs.Label.{blank}
 use Rattle.star.specs.Direction.{orderOf}
@@ -45,11 +46,11 @@ unfolding filledOf
 completed-length pa pb ls = length-map (walkedOf ls) _ ∙ walked-length ls
 
 -- what an answer that is no refusal holds
-module _ (es : List EdgeEnd) (pa pb : Position) (e : starOf es pa pb .answer ≡ Completed) where
+module _ (es : List EdgeEnd) (pa pb : Position) (e : starOf es pa pb .answer ≡ Fine) where
   accepted : (b : Bool) → missingLeft (joinedOf es) ≡ b → missingLeft (joinedOf es) ≡ false
   unfolding completedStar
   accepted false m = m
-  accepted true m = let f : Refused MissingLeft ≡ Completed = sym (rw m refl) ∙ e in let z : _≡_ {A = ℕ} 0 1 = cc in absurd (omega arith)
+  accepted true m = fine-refused {r = MissingLeft} (sym e ∙ rw m refl)
 
   pub star-count : starOf es pa pb .count ≤ length es
   unfolding completedStar

@@ -20,12 +20,13 @@ use Rattle.de9im.specs.Position.{rowOf}
 use Rattle.de9im.proofs.LawsForms.{cells-back, matrix-shaped, nine-cases}
 use Rattle.de9im.proofs.LawsPatterns.{cells-at}
 use Rattle.star.specs.declared.label.Label.{Label}
-use Rattle.star.specs.Grid.{gridAt, gridOf, cellsIn, raiseGrid, gridLabel, pourGrid}
+use Rattle.star.specs.Inner.Grid.{gridAt, gridOf, cellsIn, raiseGrid, gridLabel, pourGrid}
 use Rattle.star.specs.Label.{codeOf}
 use Rattle.star.specs.Pouring.{pourNode, pourLabel, pourLabels, into}
 use Rattle.star.proofs.LawsPouring.{raise-cell, raise-shape, label-shape}
 
--- sixteen numbers that hold a matrix
+-- ---- sixteen numbers that hold a matrix
+
 record Holds (g : List ℕ) (m : Matrix) : Type 0 where
   long : length g ≡ 16
   cell : (i j : ℕ) → i < 3 → j < 3 → getD g (5 + (4 * i + j)) 0 ≡ dimNo (cellAt m i j)
@@ -61,6 +62,8 @@ read-back g m t =
     (t .cell 0 0 (omega arith) (omega arith)) (t .cell 0 1 (omega arith) (omega arith)) (t .cell 0 2 (omega arith) (omega arith))
     (t .cell 1 0 (omega arith) (omega arith)) (t .cell 1 1 (omega arith) (omega arith)) (t .cell 1 2 (omega arith) (omega arith))
     (t .cell 2 0 (omega arith) (omega arith)) (t .cell 2 1 (omega arith) (omega arith)) (t .cell 2 2 (omega arith) (omega arith)))
+
+-- ---- where a cell stands
 
 -- a known position's code is one above its row; a none has code 0 and no row
 code-row : (p : Position) → (codeOf p ≡ suc (rowOf p)) ⊎ ((codeOf p ≡ 0) × (rowOf p ≡ 3))
@@ -108,6 +111,8 @@ module _ (a b : Position) (i j : ℕ) (h : i < 3) (k : j < 3) where
 
 grid-few : (a b : Position) → gridAt a b < 16
 grid-few a b = omega (arith, code-few a, code-few b)
+
+-- ---- raising and pouring
 
 -- a place of the grid after one was raised
 raised-at : (g : List ℕ) (k p v : ℕ) (t : Bool) → k < length g → eqb k p ≡ t
@@ -162,6 +167,8 @@ labels-hold : (g : List ℕ) (m : Matrix) (ls : List Label) → Holds g m → Sh
 unfolding pourGrid pourLabels
 labels-hold g m [] t s = t
 labels-hold g m (l ∷ ls) t s = labels-hold (gridLabel g l) (pourLabel m l) ls (label-holds g m l t s) (label-shape l m s)
+
+-- ---- read back
 
 -- a label poured into nine numbers
 pub grid-label : (ns : List ℕ) (l : Label) → cellsIn (gridLabel (gridOf ns) l) ≡ cellsOf (pourLabel (matrixOf ns) l)

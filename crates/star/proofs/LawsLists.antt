@@ -6,7 +6,7 @@ use native.Mathlib.Omega.{arith}
 use native.Mathlib.Nat.{add-zero}
 use native.Mathlib.Numerals.{add-one}
 use lib.ListN.{length, take, drop, getD, set, replicate, length-append, drop-of-length-le}
-use Rattle.star.specs.Walking.{scan, after}
+use Rattle.star.specs.Inner.Walking.{scan, after}
 use lib.Seq.{drop-cons, getD-take, getD-drop, drop-drop, drop-set-lt, take-suc, take-suc-set, append-snoc, length-take-le, set-at}
 
 module _ {X : Type 0} (z : X) where

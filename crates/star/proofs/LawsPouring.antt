@@ -48,7 +48,8 @@ raise-at m p q i j d s h k = go (ltb p 3) (ltb q 3) refl refl
     here true true e f =
         rw (e, f, eqb-true p i e, eqb-true q j f) (ap dimNo (put-same m i j (larger (cellAt m i j) d) s h k) ∙ larger-max (cellAt m i j) d)
     here true false e f =
-        rw (e, f, eqb-true p i e) (ap dimNo (put-column m i q j (larger (cellAt m i q) d) s h (λ w. eqb-false q j f (sym w))) ∙ omega arith)
+        rw (e, f, eqb-true p i e)
+        (ap dimNo (put-column m i q j (larger (cellAt m i q) d) s h (λ w. eqb-false q j f (sym w))) ∙ omega arith)
     here false u e f = rw e (ap dimNo (put-row m p q i j (larger (cellAt m p q) d) (λ w. eqb-false p i e (sym w))) ∙ omega arith)
 
     apart : (x y : ℕ) → ltb x 3 ≡ false → y < 3 → eqb x y ≡ false

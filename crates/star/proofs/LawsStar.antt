@@ -1,5 +1,4 @@
 -- What the look finds, and how many labels a walk leaves. Assumes nothing.
-use Prim.Native.Nat.{_-_}
 use mathlib.Core.Path.{_≡_, ap, _∙_}
 use mathlib.Core.Bool.{_||_}
 use mathlib.Core.List.{List}
@@ -7,7 +6,7 @@ use lib.ListN.{length}
 use Rattle.star.specs.declared.label.Label.{Label}
 use Rattle.star.specs.declared.look.View.{View}
 use Rattle.star.specs.Completing.{walkedOf, missingLeft}
-use Rattle.star.specs.Walking.{foundOf, lookedOf, foundMissing, viewOf}
+use Rattle.star.specs.Inner.Walking.{foundOf, lookedOf, foundMissing, viewOf}
 use Rattle.star.proofs.LawsLists.{scan-length}
 use Rattle.star.proofs.LawsWalk.{walkLabel, nextLabel, walked-both, missing-looked}
 

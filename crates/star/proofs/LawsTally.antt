@@ -15,7 +15,7 @@ use Rattle.star.specs.declared.label.Geometry.the-variants.{A, B}
 use Rattle.star.specs.declared.«edge_end».EdgeEnd.{EdgeEnd}
 use Rattle.star.specs.Label.{halfOf, isPos}
 use Rattle.star.specs.Bundle.{bit, count, isArea, onIs, sideIs, onFrom, sideFrom, onJoined, sideJoined, halfJoined, joinOf}
-use Rattle.star.specs.Tally.{digits, numberFor, tallyOf, onMark, sideMark, markOf, added, half, labelOf, Small}
+use Rattle.star.specs.Inner.Tally.{digits, numberFor, tallyOf, onMark, sideMark, markOf, added, sidesIn, labelOf, Small}
 
 module _ {X : Type 0} (t : X → Bool) where
   pub count-snoc : (xs : List X) (x : X) → count t (xs ++ (x ∷ [])) ≡ count t xs + bit (t x)
@@ -39,9 +39,9 @@ digit a r h = add-mul-mod-self-left a 1024 r ∙ mod-eq-of-lt h
 others : (a r : ℕ) → a < 1024 → (a + 1024 * r) / 1024 ≡ r
 others a r h = add-mul-div-left a r (omega arith) ∙ rw (div-eq-of-lt h) (omega arith)
 
-half-digits : (a b c d e f : ℕ) → a < 1024 → b < 1024 → c < 1024 → d < 1024 → e < 1024 → f < 1024
-    → half (digits a b c d e f) ≡ record { on = onFrom a b; left = sideFrom c d; right = sideFrom e f }
-half-digits a b c d e f ha hb hc hd he hf =
+sides-digits : (a b c d e f : ℕ) → a < 1024 → b < 1024 → c < 1024 → d < 1024 → e < 1024 → f < 1024
+    → sidesIn (digits a b c d e f) ≡ record { on = onFrom a b; left = sideFrom c d; right = sideFrom e f }
+sides-digits a b c d e f ha hb hc hd he hf =
     simp (
       others a (b + 1024 * (c + 1024 * (d + 1024 * (e + 1024 * f)))) ha,
       others b (c + 1024 * (d + 1024 * (e + 1024 * f))) hb,
@@ -57,10 +57,10 @@ half-digits a b c d e f ha hb hc hd he hf =
     )
 
 module _ (es : List EdgeEnd) (h : length es < 1024) where
-  half-back : (g : Geometry) → half (numberFor g es) ≡ halfJoined g es
+  sides-back : (g : Geometry) → sidesIn (numberFor g es) ≡ halfJoined g es
   unfolding numberFor halfJoined onJoined sideJoined
-  half-back g =
-      half-digits (count (onIs g OnBoundary) es) (count (onIs g Inside) es) (count (sideIs g Left Inside) es)
+  sides-back g =
+      sides-digits (count (onIs g OnBoundary) es) (count (onIs g Inside) es) (count (sideIs g Left Inside) es)
       (count (sideIs g Left Outside) es) (count (sideIs g Right Inside) es) (count (sideIs g Right Outside) es)
       (omega (arith, count-few (onIs g OnBoundary) es))
       (omega (arith, count-few (onIs g Inside) es))
@@ -72,7 +72,7 @@ module _ (es : List EdgeEnd) (h : length es < 1024) where
   -- the label read from the counts is the joined label
   pub label-back : labelOf (tallyOf es) ≡ joinOf es
   unfolding labelOf tallyOf joinOf
-  label-back = rw (half-back A, half-back B) refl
+  label-back = rw (sides-back A, sides-back B) refl
 
   number-small : (g : Geometry) → numberFor g es < 4611686018427387904
   unfolding numberFor

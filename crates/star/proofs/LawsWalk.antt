@@ -1,23 +1,37 @@
 -- One walk for both geometries does what the walk for A and then that for B do, and one look finds what they need.
 -- Assumes nothing.
-use Prim.Native.Nat.{ℕ}
 use mathlib.Core.Path.{_≡_, refl, sym, ap, _∙_}
 use mathlib.Core.Bool.{Bool, true, false, cond, not, _&&_, _||_, or-false, or-true, or-assoc}
 use mathlib.Core.List.{List, [], _∷_, _++_}
 use mathlib.Core.Logic.{_⊎_, inl, inr}
-use native.Mathlib.Omega.{arith}
 use Rattle.de9im.specs.declared.«coordinate_position».Position.{Position}
 use Rattle.de9im.specs.declared.«coordinate_position».Position.the-variants.{None, Inside, OnBoundary, Outside}
+use Rattle.de9im.proofs.LawsApart.{impossible}
 use Rattle.star.specs.declared.«topology_position».Sides.{Sides}
 use Rattle.star.specs.declared.label.Geometry.{Geometry}
 use Rattle.star.specs.declared.label.Geometry.the-variants.{A, B}
 use Rattle.star.specs.declared.label.Label.{Label}
 use Rattle.star.specs.declared.«edge_end_bundle_star».Current.{Current}
 use Rattle.star.specs.Label.{halfOf, isNone, orElse}
-use Rattle.star.specs.Completing.{areaLeft, startOf, walkSides, walkNext, putHalf, walkFrom, walkOf, walkedOf, any, hasLeft, rightAlone, missingLeft, lastOf}
-use Rattle.star.specs.Walking.{scan, foundOf, lookedOf, lookLabel}
+use Rattle.star.specs.Completing.{
+  areaLeft,
+  startOf,
+  walkSides,
+  walkNext,
+  putHalf,
+  walkFrom,
+  walkOf,
+  walkedOf,
+  any,
+  hasLeft,
+  rightAlone,
+  missingLeft,
+  lastOf,
+}
+use Rattle.star.specs.Inner.Walking.{scan, foundOf, lookedOf, lookLabel}
 
--- both walks of document 01 in one
+-- ---- both walks of document 01 in one
+
 unfoldable pub walkLabel : Current → Label → Label
 walkLabel c l = record { area = l .area; a = walkSides (l .area) (c .a) (l .a); b = walkSides (l .area) (c .b) (l .b) }
 
@@ -40,20 +54,13 @@ unfolding walkFrom startOf
 start-kept p [] = refl
 start-kept p (l ∷ ls) = rw (start-kept (walkNext (l .area) p (l .a)) ls) refl
 
+-- ---- positions that may be none
+
 pub or-none : (p q : Position) → orElse p q ≡ None → (p ≡ None) × (q ≡ None)
 or-none None q e = (refl, e)
-or-none Inside q e = (e, absurd (never e))
-  where
-    never : Inside ≡ None → ⊥
-    never f = let z : _≡_ {A = ℕ} 0 1 = cc in omega arith
-or-none OnBoundary q e = (e, absurd (never e))
-  where
-    never : OnBoundary ≡ None → ⊥
-    never f = let z : _≡_ {A = ℕ} 0 1 = cc in omega arith
-or-none Outside q e = (e, absurd (never e))
-  where
-    never : Outside ≡ None → ⊥
-    never f = let z : _≡_ {A = ℕ} 0 1 = cc in omega arith
+or-none Inside q e = impossible (cc)
+or-none OnBoundary q e = impossible (cc)
+or-none Outside q e = impossible (cc)
 
 pub or-self : (p : Position) → orElse p None ≡ p
 or-self None = refl
@@ -67,6 +74,8 @@ by-none None = inr refl
 by-none Inside = inl refl
 by-none OnBoundary = inl refl
 by-none Outside = inl refl
+
+-- ---- where the walk starts
 
 same-sides : (s : Sides) {o l r : Position} → o ≡ s .on → l ≡ s .left → r ≡ s .right → record { on = o; left = l; right = r } ≡ s
 same-sides s e f g = rw (e, f, g) refl
@@ -101,9 +110,9 @@ idle g (l ∷ ls) e =
 
 pub is-none : (p : Position) → isNone p ≡ true → p ≡ None
 is-none None e = refl
-is-none Inside e = let z : _≡_ {A = ℕ} 0 1 = cc in absurd (omega arith)
-is-none OnBoundary e = let z : _≡_ {A = ℕ} 0 1 = cc in absurd (omega arith)
-is-none Outside e = let z : _≡_ {A = ℕ} 0 1 = cc in absurd (omega arith)
+is-none Inside e = impossible (cc)
+is-none OnBoundary e = impossible (cc)
+is-none Outside e = impossible (cc)
 
 -- so the walk may start from what the look found, none too
 walk-start : (g : Geometry) (ls : List Label) → walkOf g ls ≡ walkFrom g (startOf g ls) ls
@@ -118,6 +127,8 @@ walk-start g ls = go (isNone (startOf g ls)) refl
 pub walked-both : (ls : List Label) → walkedOf ls ≡ walkBoth (record { a = startOf A ls; b = startOf B ls }) ls
 walked-both ls =
     walk-start B (walkOf A ls) ∙ rw (walk-start A ls, start-kept (startOf A ls) ls) (both-walk (startOf A ls) (startOf B ls) ls)
+
+-- ---- one look
 
 pub or-three : (p q r : Position) → orElse (orElse p q) r ≡ orElse p (orElse q r)
 or-three None q r = refl

@@ -9,11 +9,11 @@ pub mod LawsGather
 pub mod LawsWalk
 pub mod LawsComplete
 pub mod LawsEnds
+pub mod LawsNumbers
 pub mod LawsStar
 pub mod LawsPouring
 pub mod LawsGrid
 pub mod LawsJoin
 pub mod LawsCompleted
-pub mod Examples
 pub mod LawsUnique
 pub mod LawsFew

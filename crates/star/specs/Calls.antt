@@ -10,15 +10,13 @@ use Rattle.de9im.specs.declared.refusal.Refusal.{Refusal}
 use Rattle.de9im.specs.declared.refusal.Refusal.the-variants.{MissingLeft}
 use Rattle.star.specs.declared.label.Label.{Label}
 use Rattle.star.specs.declared.«edge_end».EdgeEnd.{EdgeEnd}
-use Rattle.star.specs.declared.«edge_end».Checked.{Checked}
-use Rattle.star.specs.declared.«edge_end».Checked.the-variants as C
+use Rattle.de9im.specs.declared.answer.Checked.{Checked}
+use Rattle.de9im.specs.declared.answer.Checked.the-variants as C
 use Rattle.star.specs.declared.«edge_end_bundle».Bundled.{Bundled}
 use Rattle.star.specs.declared.«edge_end_bundle».Bundled.the-variants as D
 use Rattle.star.specs.declared.«edge_end_bundle_star».Labeled.{Labeled}
-use Rattle.star.specs.declared.«edge_end_bundle_star».StarAnswer.{StarAnswer}
-use Rattle.star.specs.declared.«edge_end_bundle_star».StarAnswer.the-variants as S
 use Rattle.star.specs.declared.pouring.Node.{Node}
-use Rattle.star.specs.declared.pouring.PouredStar.{PouredStar}
+use Rattle.de9im.specs.declared.answer.CellsAnswer.{CellsAnswer}
 use Rattle.de9im.specs.Cells.{cellsOf, matrixOf}
 use Rattle.star.specs.Pouring.{pourNode, pourLabels}
 use Rattle.star.specs.Bundle.{joinOf}
@@ -34,14 +32,18 @@ bundledAs (C.Refused r) l = D.Refused r
 unfoldable pub bundledOf : List EdgeEnd → ℕ → Bundled
 bundledOf ends n = bundledAs (checkedOf ends n) (joinOf (take n ends))
 
+-- no label
+abbrev pub unlabeled : Checked → Labeled
+unlabeled c = record { answer = c; labels = padded []; count = 0 }
+
 abbrev pub refusedStar : Refusal → Labeled
-refusedStar r = record { answer = S.Refused r; labels = padded []; count = 0 }
+refusedStar r = unlabeled (C.Refused r)
 
 -- joined labels in order, completed
 unfoldable pub completedStar : List Label → Position → Position → Labeled
 completedStar ls pa pb =
     cond (missingLeft ls) (refusedStar MissingLeft)
-    (record { answer = S.Completed; labels = padded (completedOf pa pb ls); count = length (completedOf pa pb ls) })
+    (record { answer = C.Fine; labels = padded (completedOf pa pb ls); count = length (completedOf pa pb ls) })
 
 -- the star of ends that are checked
 abbrev pub starOf : List EdgeEnd → Position → Position → Labeled
@@ -55,11 +57,11 @@ unfoldable pub starCall : List EdgeEnd → ℕ → Position → Position → Lab
 starCall ends n pa pb = starAs (checkedOf ends n) (starOf (take n ends) pa pb)
 
 -- a star poured straight into nine numbers: its node, then its labels; a refusal hands the numbers back as they came
-abbrev pub pouredAs : StarAnswer → List ℕ → List ℕ → PouredStar
-pouredAs S.Completed given raised = record { answer = S.Completed; cells = raised }
-pouredAs (S.Refused r) given raised = record { answer = S.Refused r; cells = given }
+abbrev pub pouredAs : Checked → List ℕ → List ℕ → CellsAnswer
+pouredAs C.Fine given raised = record { answer = C.Fine; cells = raised }
+pouredAs (C.Refused r) given raised = record { answer = C.Refused r; cells = given }
 
-unfoldable pub pouredStar : List ℕ → Node → List EdgeEnd → PouredStar
+unfoldable pub pouredStar : List ℕ → Node → List EdgeEnd → CellsAnswer
 pouredStar ns p es =
     pouredAs (starOf es (p .«area_a») (p .«area_b») .answer) ns
     (cellsOf (pourLabels (pourNode (matrixOf ns) (p .«on_a») (p .«on_b»)) (completedOf (p .«area_a») (p .«area_b») (joinedOf es))))

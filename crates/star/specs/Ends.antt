@@ -12,8 +12,8 @@ use Rattle.de9im.specs.declared.refusal.Refusal.the-variants.{Ends, LabelKind, 
 use Rattle.star.specs.declared.label.Label.{Label}
 use Rattle.star.specs.declared.«edge_end».Dir.{Dir}
 use Rattle.star.specs.declared.«edge_end».EdgeEnd.{EdgeEnd}
-use Rattle.star.specs.declared.«edge_end».Checked.{Checked}
-use Rattle.star.specs.declared.«edge_end».Checked.the-variants.{Fine, Refused}
+use Rattle.de9im.specs.declared.answer.Checked.{Checked}
+use Rattle.de9im.specs.declared.answer.Checked.the-variants.{Fine, Refused}
 use Rattle.star.specs.Label.{sidesNone, blank}
 use Rattle.star.specs.Direction.{zeroDir}
 
@@ -52,10 +52,10 @@ noDir = record { dx = pos 0; dy = pos 0 }
 abbrev pub noEnd : EdgeEnd
 noEnd = record { dir = noDir; label = blank }
 
-abbrev pub dirAt : List EdgeEnd → ℕ → Dir
-dirAt es k = getD es k noEnd .dir
+abbrev pub kthDir : List EdgeEnd → ℕ → Dir
+kthDir es k = getD es k noEnd .dir
 
 -- at most 32 ends, and no direction of theirs 0, 0: what the core of a star call asks of ends that are checked already
 pub record Sound (ends : List EdgeEnd) (n : ℕ) : Type 0 where
   pub few : n ≤ 32
-  pub sound : (k : ℕ) → k < n → zeroDir (dirAt ends k) ≡ false
+  pub sound : (k : ℕ) → k < n → zeroDir (kthDir ends k) ≡ false

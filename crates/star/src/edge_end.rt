@@ -1,6 +1,7 @@
 // Edge ends, and the order of their directions around a node: counterclockwise from the positive x-axis.
 use crate::label::Label;
 use crate::topology_position::sides_none;
+use de9im::answer::Checked;
 use de9im::refusal::Refusal;
 ghost use mathlib.Core.Bool.{cond};
 ghost use mathlib.Core.Path.{_≡_};
@@ -78,12 +79,6 @@ pub fn compare(d: Dir, e: Dir) -> Order
     ensures { λ r. ⌜ r ≡ orderOf d e ⌝ }
 {
     by_quadrant(quadrant(d), quadrant(e), turn(d, e))
-}
-
-// Whether ends may be taken, or the first thing that is wrong with them.
-pub enum Checked {
-    Fine,
-    Refused(Refusal),
 }
 
 fn zero(d: Dir) -> bool

@@ -1,10 +1,11 @@
 // A bundle: the edge ends at one node with one direction, joined into one label by counting their positions.
-use crate::edge_end::Checked;
 use crate::edge_end::EdgeEnd;
 use crate::edge_end::check;
 use crate::label::Label;
+use crate::label::blank;
 use crate::topology_position::Sides;
 use crate::topology_position::pick;
+use de9im::answer::Checked;
 use de9im::coordinate_position::Position;
 use de9im::refusal::Refusal;
 ghost use mathlib.Core.Bool.{cond};
@@ -12,12 +13,12 @@ ghost use mathlib.Core.Path.{_≡_};
 ghost use Prim.Native.Nat.{_≤_};
 ghost use lib.ListN.{take};
 ghost use Rattle.star.specs.Bundle.{bit, onFrom, sideFrom, joinOf};
-ghost use Rattle.star.specs.Calls.{bundledOf};
-ghost use Rattle.star.specs.Tally.{Small, onMark, sideMark, markOf, added, half, labelOf};
+ghost use Rattle.star.specs.Calls.{bundledAs, bundledOf};
+ghost use Rattle.star.specs.Inner.Tally.{Small, onMark, sideMark, markOf, added, sidesIn, labelOf};
 
 // The counts of a bundle. Per geometry six digits of base 1024, the least first: on the boundary, on inside, left inside, left
 // outside, right inside, right outside. Adding an end is one sum, and 1,023 ends don't carry.
-pub struct Tally {
+pub(crate) struct Tally {
     pub areas: u64,
     pub a: u64,
     pub b: u64,
@@ -120,8 +121,8 @@ fn side_from(j: u64, k: u64) -> Position
     )
 }
 
-fn half_of(n: u64) -> Sides
-    ensures { λ r. ⌜ r ≡ half n ⌝ }
+fn sides_in(n: u64) -> Sides
+    ensures { λ r. ⌜ r ≡ sidesIn n ⌝ }
 {
     let m = n / 1024;
     let left = m / 1024;
@@ -134,11 +135,11 @@ fn half_of(n: u64) -> Sides
 }
 
 // The label of the bundle that was counted.
-pub fn label_of(t: Tally) -> Label
+pub(crate) fn label_of(t: Tally) -> Label
     ensures { λ r. ⌜ r ≡ labelOf t ⌝ }
 {
-    let a = half_of(t.a);
-    let b = half_of(t.b);
+    let a = sides_in(t.a);
+    let b = sides_in(t.b);
     Label {
         area: 0 < t.areas,
         a,
@@ -167,13 +168,23 @@ pub enum Bundled {
     Refused(Refusal),
 }
 
+// A check's answer, with the label that is joined where nothing is refused.
+fn bundled_as(c: Checked, l: Label) -> Bundled
+    ensures { λ r. ⌜ r ≡ bundledAs c l ⌝ }
+{
+    match c {
+        Checked::Fine => Bundled::Joined(l),
+        Checked::Refused(r) => Bundled::Refused(r),
+    }
+}
+
 // One bundle of all the ends, once they are checked. 9 can't arise: nothing is completed.
 pub fn bundle(ends: [EdgeEnd; 32], count: usize) -> Bundled
     ensures { λ r. ⌜ r ≡ bundledOf ends count ⌝ }
 {
     let c = check(ends, count);
-    match c {
-        Checked::Fine => Bundled::Joined(join(ends, count)),
-        Checked::Refused(r) => Bundled::Refused(r),
-    }
+    let Checked::Fine = c else {
+        return bundled_as(c, blank());
+    };
+    Bundled::Joined(join(ends, count))
 }

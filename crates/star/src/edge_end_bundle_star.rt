@@ -1,5 +1,4 @@
 // A star: the bundles around a node in counterclockwise order, completed for A and for B.
-use crate::edge_end::Checked;
 use crate::edge_end::EdgeEnd;
 use crate::edge_end::check;
 use crate::gather::bundle_label;
@@ -16,16 +15,17 @@ use crate::topology_position::is_boundary;
 use crate::topology_position::is_none;
 use crate::topology_position::or_else;
 use crate::topology_position::pick;
+use de9im::answer::Checked;
 use de9im::coordinate_position::Position;
 use de9im::refusal::Refusal;
 ghost use mathlib.Core.Path.{_≡_};
 ghost use lib.ListN.{take};
 ghost use Rattle.star.specs.Label.{padded};
-ghost use Rattle.star.specs.Gather.{labelsAt, Placed};
+ghost use Rattle.star.specs.Inner.Gather.{placedLabels, Placed};
 ghost use Rattle.star.specs.Completing.{collapses, restOf};
 ghost use Rattle.star.specs.Ends.{Sound};
-ghost use Rattle.star.specs.Calls.{refusedStar, starOf, starCall};
-ghost use Rattle.star.specs.Walking.{
+ghost use Rattle.star.specs.Calls.{unlabeled, starOf, starCall};
+ghost use Rattle.star.specs.Inner.Walking.{
   completeSides,
   completeNext,
   completeLabel,
@@ -35,7 +35,7 @@ ghost use Rattle.star.specs.Walking.{
 };
 
 // What is current in the walk, for each geometry.
-pub struct Current {
+pub(crate) struct Current {
     pub a: Position,
     pub b: Position,
 }
@@ -106,7 +106,8 @@ fn complete(
     start: Current,
 ) -> [Label; 32]
     requires { ⌜ Placed (now order) n ⌝ }
-    ensures { λ r. ⌜ r ≡ padded (completeWalk start (labelsAt (now (order .entry)) (now (areas .entry)) (now (a .entry)) (now (b .entry)) n)) ⌝ }
+    ensures { λ r. ⌜ r ≡ padded
+        (completeWalk start (placedLabels (now (order .entry)) (now (areas .entry)) (now (a .entry)) (now (b .entry)) n)) ⌝ }
 {
     let mut out = [blank(); 32];
     let mut c = start;
@@ -149,30 +150,26 @@ pub(crate) fn starts(view: View, area_a: Position, area_b: Position) -> Current
     Current { a: sa, b: sb }
 }
 
-pub enum StarAnswer {
-    Completed,
-    Refused(Refusal),
-}
-
 // The answer to a star, with its completed labels in order beside it: blanks past the count.
 pub struct Labeled {
-    pub answer: StarAnswer,
+    pub answer: Checked,
     pub labels: [Label; 32],
     pub count: usize,
 }
 
-fn refused(r: Refusal) -> Labeled
-    ensures { λ s. ⌜ s ≡ refusedStar r ⌝ }
+// An answer without labels.
+fn unlabeled(c: Checked) -> Labeled
+    ensures { λ s. ⌜ s ≡ unlabeled c ⌝ }
 {
     Labeled {
-        answer: StarAnswer::Refused(r),
+        answer: c,
         labels: [blank(); 32],
         count: 0,
     }
 }
 
 // The core of a star call, for ends that are checked: at most 32, and no direction 0,0.
-pub fn star_of(ends: [EdgeEnd; 32], n: usize, area_a: Position, area_b: Position) -> Labeled
+pub(crate) fn star_of(ends: [EdgeEnd; 32], n: usize, area_a: Position, area_b: Position) -> Labeled
     requires { ⌜ Sound ends n ⌝ }
     ensures { λ r. ⌜ r ≡ starOf (take n ends) («area_a») («area_b») ⌝ }
 {
@@ -183,11 +180,11 @@ pub fn star_of(ends: [EdgeEnd; 32], n: usize, area_a: Position, area_b: Position
     let count = gather(ends, n, &mut order, &mut areas, &mut a, &mut b);
     let view = look(&order, &areas, &a, &b, count);
     if missing(view.looked) {
-        return refused(Refusal::MissingLeft);
+        return unlabeled(Checked::Refused(Refusal::MissingLeft));
     }
     let start = starts(view, area_a, area_b);
     Labeled {
-        answer: StarAnswer::Completed,
+        answer: Checked::Fine,
         labels: complete(&order, &areas, &a, &b, count, start),
         count,
     }
@@ -198,8 +195,8 @@ pub fn star(ends: [EdgeEnd; 32], count: usize, area_a: Position, area_b: Positio
     ensures { λ r. ⌜ r ≡ starCall ends count («area_a») («area_b») ⌝ }
 {
     let c = check(ends, count);
-    match c {
-        Checked::Fine => star_of(ends, count, area_a, area_b),
-        Checked::Refused(r) => refused(r),
-    }
+    let Checked::Fine = c else {
+        return unlabeled(c);
+    };
+    star_of(ends, count, area_a, area_b)
 }

@@ -6,7 +6,7 @@ use de9im::cells::Cells;
 use de9im::coordinate_position::Position;
 ghost use mathlib.Core.Path.{_≡_};
 ghost use Prim.Native.Nat.{min, max};
-ghost use Rattle.star.specs.Grid.{gridOf, cellsIn, raiseGrid, gridLabel};
+ghost use Rattle.star.specs.Inner.Grid.{gridOf, cellsIn, raiseGrid, gridLabel};
 
 // A number above 3 is read as 3.
 fn read(n: u8) -> u8

@@ -16,7 +16,7 @@ pub struct Label {
     pub b: Sides,
 }
 
-// Picks the half: the one place where code goes by the geometry.
+// What one geometry says.
 pub fn half(l: Label, g: Geometry) -> Sides
     ensures { λ r. ⌜ r ≡ halfOf g l ⌝ }
 {

@@ -3,9 +3,9 @@
 pub mod edge_end;
 pub mod edge_end_bundle;
 pub mod edge_end_bundle_star;
-pub mod gather;
-pub mod grid;
+pub(crate) mod gather;
+pub(crate) mod grid;
 pub mod label;
-pub mod look;
+pub(crate) mod look;
 pub mod pouring;
 pub mod topology_position;

@@ -10,23 +10,23 @@ use de9im::coordinate_position::Position;
 ghost use mathlib.Core.Bool.{_||_};
 ghost use mathlib.Core.Path.{_≡_};
 ghost use mathlib.Core.List.{[]};
-ghost use Rattle.star.specs.Gather.{labelsAt, Placed};
-ghost use Rattle.star.specs.Walking.{seenOf, lookLabel, lookedOf, foundMissing, viewOf};
+ghost use Rattle.star.specs.Inner.Gather.{placedLabels, Placed};
+ghost use Rattle.star.specs.Inner.Walking.{seenOf, lookLabel, lookedOf, foundMissing, viewOf};
 
 // What a look over the labels finds for one geometry: where its walk starts, and whether some right has no left beside it.
-pub struct Found {
+pub(crate) struct Found {
     pub start: Position,
     pub alone: bool,
 }
 
 // A look over the labels, for both geometries.
-pub struct Looked {
+pub(crate) struct Looked {
     pub a: Found,
     pub b: Found,
 }
 
 // What completing needs before its walk: the look, and the last label in order.
-pub struct View {
+pub(crate) struct View {
     pub looked: Looked,
     pub last: Label,
 }
@@ -94,7 +94,7 @@ pub(crate) fn look(
     n: usize,
 ) -> View
     requires { ⌜ Placed (now order) n ⌝ }
-    ensures { λ r. ⌜ r ≡ viewOf (labelsAt (now (order .entry)) (now (areas .entry)) (now (a .entry)) (now (b .entry)) n) ⌝ }
+    ensures { λ r. ⌜ r ≡ viewOf (placedLabels (now (order .entry)) (now (areas .entry)) (now (a .entry)) (now (b .entry)) n) ⌝ }
 {
     let mut w = nothing();
     let mut last = blank();

@@ -1,7 +1,6 @@
 // Pouring: what a node and what the labels around it raise in the matrix. A none skips its cell.
 use crate::edge_end::EdgeEnd;
 use crate::edge_end_bundle_star::Current;
-use crate::edge_end_bundle_star::StarAnswer;
 use crate::edge_end_bundle_star::complete_label;
 use crate::edge_end_bundle_star::next_label;
 use crate::edge_end_bundle_star::starts;
@@ -16,6 +15,8 @@ use crate::look::look;
 use crate::look::missing;
 use crate::topology_position::Side;
 use crate::topology_position::position;
+use de9im::answer::CellsAnswer;
+use de9im::answer::Checked;
 use de9im::cells::Cells;
 use de9im::coordinate_position::Position;
 use de9im::dimensions::Dimensions;
@@ -27,10 +28,10 @@ ghost use lib.ListN.{take};
 ghost use Rattle.de9im.specs.Cells.{cellsOf, matrixOf};
 ghost use Rattle.star.specs.Calls.{pouredStar};
 ghost use Rattle.star.specs.Ends.{Sound};
-ghost use Rattle.star.specs.Gather.{labelsAt, Placed};
-ghost use Rattle.star.specs.Grid.{pourGrid};
+ghost use Rattle.star.specs.Inner.Gather.{placedLabels, Placed};
+ghost use Rattle.star.specs.Inner.Grid.{pourGrid};
 ghost use Rattle.star.specs.Pouring.{pourNode, pourSide, pourLabel};
-ghost use Rattle.star.specs.Walking.{completeWalk};
+ghost use Rattle.star.specs.Inner.Walking.{completeWalk};
 
 // A node raises (on A, on B) to 0.
 pub fn pour_node(m: IntersectionMatrix, a: Position, b: Position) -> IntersectionMatrix
@@ -76,12 +77,6 @@ pub struct Node {
     pub area_b: Position,
 }
 
-// The answer to a star, with the matrix beside it as nine flat numbers.
-pub struct PouredStar {
-    pub answer: StarAnswer,
-    pub cells: Cells,
-}
-
 // Completes n bundles in one walk, and pours each as soon as it is complete.
 fn pour_walk(
     g: &mut [u8; 16],
@@ -94,7 +89,7 @@ fn pour_walk(
 )
     requires { ⌜ Placed (now order) n ⌝ }
     ensures { λ r. ⌜ now (g .exit) ≡ pourGrid (now (g .entry))
-        (completeWalk start (labelsAt (now (order .entry)) (now (areas .entry)) (now (a .entry)) (now (b .entry)) n)) ⌝ }
+        (completeWalk start (placedLabels (now (order .entry)) (now (areas .entry)) (now (a .entry)) (now (b .entry)) n)) ⌝ }
 {
     let mut c = start;
     let mut i: usize = 0;
@@ -107,7 +102,7 @@ fn pour_walk(
 }
 
 // A node and its star, for ends that are checked, poured straight into a matrix. A refusal hands the numbers back as they came.
-pub fn pour_star(cells: Cells, node: Node, ends: [EdgeEnd; 32], n: usize) -> PouredStar
+pub fn pour_star(cells: Cells, node: Node, ends: [EdgeEnd; 32], n: usize) -> CellsAnswer
     requires { ⌜ Sound ends n ⌝ }
     ensures { λ r. ⌜ r ≡ pouredStar cells node (take n ends) ⌝ }
 {
@@ -118,8 +113,8 @@ pub fn pour_star(cells: Cells, node: Node, ends: [EdgeEnd; 32], n: usize) -> Pou
     let count = gather(ends, n, &mut order, &mut areas, &mut a, &mut b);
     let view = look(&order, &areas, &a, &b, count);
     if missing(view.looked) {
-        return PouredStar {
-            answer: StarAnswer::Refused(Refusal::MissingLeft),
+        return CellsAnswer {
+            answer: Checked::Refused(Refusal::MissingLeft),
             cells,
         };
     }
@@ -131,8 +126,8 @@ pub fn pour_star(cells: Cells, node: Node, ends: [EdgeEnd; 32], n: usize) -> Pou
     let mut g = grid_of(cells);
     raise(&mut g, on_a, on_b, 1);
     pour_walk(&mut g, &order, &areas, &a, &b, count, start);
-    PouredStar {
-        answer: StarAnswer::Completed,
+    CellsAnswer {
+        answer: Checked::Fine,
         cells: cells_of(g),
     }
 }

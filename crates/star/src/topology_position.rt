@@ -18,7 +18,7 @@ pub struct Sides {
     pub right: Position,
 }
 
-// Picks the side: the one place where code goes by the side.
+// The position on the line itself, to its left or to its right.
 pub fn position(s: Sides, at: Side) -> Position
     ensures { λ r. ⌜ r ≡ sideOf at s ⌝ }
 {

@@ -9,10 +9,10 @@ use lib.ListN.{length, take, drop, length-append, length-take, length-drop}
 use lib.Seq.{drop-drop, drop-append-le}
 use Rattle.de9im.specs.declared.refusal.Refusal.{Refusal}
 use Rattle.de9im.specs.declared.refusal.Refusal.the-variants.{Short}
-use Rattle.plan.specs.declared.Answer.the-variants.{Used, Refused}
-use Rattle.plan.specs.declared.record.RecordAnswer.{RecordAnswer}
+use Rattle.de9im.specs.declared.answer.Answer.the-variants.{Used, Refused}
+use Rattle.de9im.specs.declared.answer.BytesAnswer.{BytesAnswer}
 use Rattle.plan.specs.Record.{refusedAs, recordOf}
-use Rattle.plan.specs.Words.{halfAt}
+use Rattle.plan.specs.Words.{promised}
 use Rattle.plan.proofs.LawsAfter.{Spent, spent, later-bytes}
 use Rattle.stream.specs.declared.Told.{Told}
 use Rattle.stream.specs.declared.Told.the-variants as T
@@ -25,6 +25,7 @@ use Rattle.stream.specs.Input.{Answers, Settled}
 use Rattle.stream.specs.Input.Answers.{ends, refuses, accepts}
 use Rattle.stream.specs.Input.Settled.{at-end, at-refusal, unreadable}
 use Rattle.stream.proofs.LawsDrain.{never, short-answer, whole-two, whole-body}
+use Rattle.de9im.proofs.LawsApart.{impossible}
 
 none-used : {A : Type 0} (ns : List ℕ) {u : ℕ} → recordOf ns [] .answer ≡ Used u → A
 none-used ns {u = u} e = absurd (let p = spent ns [] u e .two in omega arith)
@@ -49,7 +50,7 @@ pub in-front : (ns s rest : List ℕ) (off u : ℕ) (o : Outcome) → recordOf n
 in-front ns s rest off u o e h =
     let p = spent ns s u e in
     let same : recordOf ns (s ++ rest) ≡ recordOf ns s = later-bytes ns s rest (p .two) (p .whole) in
-    let f : recordOf ns (s ++ rest) .answer ≡ Used u = ap (λ (x : RecordAnswer). x .answer) same ∙ e in
+    let f : recordOf ns (s ++ rest) .answer ≡ Used u = ap (λ (x : BytesAnswer). x .answer) same ∙ e in
     let d : drop u (s ++ rest) ≡ drop u s ++ rest = drop-append-le u s rest (omega (arith, p .whole, p .used)) in
     let h′ : Answers (recordOf ns (s ++ rest) .cells) (off + u) (drop u (s ++ rest)) o = rw (same, d) h in
     accepts f h′
@@ -58,7 +59,7 @@ in-front ns s rest off u o e h =
 pub drained-part : {ns s : List ℕ} {d : Drained} → Drains ns s d → d .stop ≡ S.Part → (off : ℕ) (rest : List ℕ) (o : Outcome)
     → Answers (d .cells) (off + d .used) (drop (d .used) s ++ rest) o → Answers ns off (s ++ rest) o
 drained-part (part p) e off rest o a = rw add-zero at a
-drained-part (refused w e) f off rest o a = absurd (let z : _≡_ {A = ℕ} 0 1 = cc in omega arith)
+drained-part (refused w e) f off rest o a = impossible (cc)
 drained-part {ns = ns} {s = s} (accepted {u = u} {d = d} e h) f off rest o a =
     in-front ns s rest off u o e
     (drained-part h f (off + u) rest o (rw (drop-drop (d .used) u s, add-assoc off u (d .used)) a))
@@ -66,11 +67,11 @@ drained-part {ns = ns} {s = s} (accepted {u = u} {d = d} e h) f off rest o a =
 -- a buffer that stops at a refused record: its offset, whatever follows
 pub drained-refused : {ns s : List ℕ} {d : Drained} {r : Refusal} → Drains ns s d → d .stop ≡ S.Refused r → (off : ℕ) (rest : List ℕ)
     → Answers ns off (s ++ rest) (record { told = T.Refused r (off + d .used); cells = d .cells })
-drained-refused (part p) e off rest = absurd (let z : _≡_ {A = ℕ} 0 1 = cc in omega arith)
+drained-refused (part p) e off rest = impossible (cc)
 drained-refused {ns = ns} {s = s} {r = r} (refused {r = r′} w e) f off rest =
     let same : recordOf ns (s ++ rest) ≡ recordOf ns s = later-bytes ns s rest (whole-two s w) (whole-body s w) in
     let q : r′ ≡ r = cc in
-    let g : recordOf ns (s ++ rest) .answer ≡ Refused r = ap (λ (x : RecordAnswer). x .answer) same ∙ e ∙ ap Refused q in
+    let g : recordOf ns (s ++ rest) .answer ≡ Refused r = ap (λ (x : BytesAnswer). x .answer) same ∙ e ∙ ap Refused q in
     let a : Answers ns off (s ++ rest) (record { told = T.Refused r off; cells = recordOf ns (s ++ rest) .cells }) =
     refuses {s = s ++ rest} (omega (arith, whole-two s w, length-append s rest)) g in
     rw (add-zero, ← same) a
@@ -87,9 +88,9 @@ pub settles-short : (ns : List ℕ) (off : ℕ) (s : List ℕ) → 0 < length s 
 settles-short ns off s h p =
     let e = short-answer ns s p in
     let a : Answers ns off s (record { told = T.Refused Short off; cells = recordOf ns s .cells }) =
-    refuses h (ap (λ (x : RecordAnswer). x .answer) e) in
+    refuses h (ap (λ (x : BytesAnswer). x .answer) e) in
     let b : Answers ns off s (record { told = T.Refused Short off; cells = ns }) =
-    subst (λ (x : RecordAnswer). Answers ns off s (record { told = T.Refused Short off; cells = x .cells })) e a in
+    subst (λ (x : BytesAnswer). Answers ns off s (record { told = T.Refused Short off; cells = x .cells })) e a in
     rw (append-nil s) (at-end b)
 
 -- what is settled after some bytes were used is settled from the start

@@ -9,8 +9,8 @@ use borrow.Author.Tests.{leb-true, leb-false}
 use lib.Dec.{leb}
 use lib.ListN.{length, take, drop, length-append}
 use lib.Seq.{take-at}
-use Rattle.de9im.specs.declared.predicates.Predicate.{Predicate}
-use Rattle.de9im.specs.declared.predicates.Predicate.the-variants.{
+use Rattle.predicates.specs.declared.predicate.Predicate.{Predicate}
+use Rattle.predicates.specs.declared.predicate.Predicate.the-variants.{
   Disjoint,
   Intersects,
   Within,
@@ -25,8 +25,8 @@ use Rattle.de9im.specs.declared.predicates.Predicate.the-variants.{
 }
 use Rattle.de9im.specs.Bytes.{bytes}
 use Rattle.de9im.specs.Matrix.{Matrix}
-use Rattle.de9im.specs.Names.{nameOf}
-use Rattle.de9im.specs.Predicates.{holds}
+use Rattle.predicates.specs.Names.{nameOf}
+use Rattle.predicates.specs.Predicates.{holds}
 use Rattle.io.specs.Digits.{Fewest, digits}
 use Rattle.de9im.specs.declared.refusal.Refusal.{Refusal}
 use Rattle.de9im.specs.Refused.{numberOf}

@@ -8,12 +8,12 @@ use native.Mathlib.Omega.{arith}
 use lib.ListN.{length, take, drop, getD, length-append, take-append-drop}
 use lib.Seq.{length-take-le, getD-take}
 use Rattle.de9im.specs.declared.refusal.Refusal.{Refusal}
-use Rattle.plan.specs.declared.Answer.{Answer}
-use Rattle.plan.specs.declared.Answer.the-variants.{Used, Refused}
-use Rattle.plan.specs.declared.record.RecordAnswer.{RecordAnswer}
+use Rattle.de9im.specs.declared.answer.Answer.{Answer}
+use Rattle.de9im.specs.declared.answer.Answer.the-variants.{Used, Refused}
+use Rattle.de9im.specs.declared.answer.BytesAnswer.{BytesAnswer}
 use Rattle.plan.specs.Record.{recordOf}
 use Rattle.plan.specs.Run.{Accepts, Run, none, then}
-use Rattle.plan.specs.Words.{halfAt}
+use Rattle.plan.specs.Words.{promised}
 use Rattle.plan.proofs.LawsAfter.{Spent, spent, later-bytes}
 use Rattle.stream.specs.declared.Told.the-variants as T
 use Rattle.stream.specs.declared.Outcome.{Outcome}
@@ -47,7 +47,7 @@ module _ (ns s : List ℕ) (u : ℕ) (e : recordOf ns s .answer ≡ Used u) wher
       let l : length (take u s) ≡ u = length-take-le u s (omega (arith, p .whole, p .used)) in
       let zeroth : getD (take u s) 0 0 ≡ getD s 0 0 = getD-take u s 0 0 (omega (arith, p .used)) in
       let first : getD (take u s) 1 0 ≡ getD s 1 0 = getD-take u s 1 0 (omega (arith, p .used)) in
-      let half : halfAt (take u s) 0 ≡ halfAt s 0 = omega arith in
+      let half : promised (take u s) ≡ promised s = omega arith in
       sym (later-bytes ns (take u s) (drop u s) (omega (arith, p .used)) (omega (arith, p .used))) ∙
       ap (recordOf ns) (take-append-drop u s)
 

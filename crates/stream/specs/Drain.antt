@@ -7,17 +7,17 @@ use mathlib.Core.List.{List}
 use lib.Dec.{ltb}
 use lib.ListN.{length, drop}
 use Rattle.de9im.specs.declared.refusal.Refusal.{Refusal}
-use Rattle.plan.specs.declared.Answer.{Answer}
-use Rattle.plan.specs.declared.Answer.the-variants.{Used, Refused}
+use Rattle.de9im.specs.declared.answer.Answer.{Answer}
+use Rattle.de9im.specs.declared.answer.Answer.the-variants.{Used, Refused}
 use Rattle.plan.specs.Record.{recordOf}
-use Rattle.plan.specs.Words.{halfAt}
+use Rattle.plan.specs.Words.{promised}
 use Rattle.stream.specs.declared.drain.Stop.{Stop}
 use Rattle.stream.specs.declared.drain.Stop.the-variants as S
 use Rattle.stream.specs.declared.drain.Drained.{Drained}
 
 -- fewer bytes than the length field needs or promises
 abbrev pub isPart : List ℕ → Bool
-isPart s = ltb (length s) 2 || ltb (length s) (2 + halfAt s 0)
+isPart s = ltb (length s) 2 || ltb (length s) (2 + promised s)
 
 -- why records stop at an answer (an accepted one is never asked)
 abbrev pub stopOf : Answer → Stop

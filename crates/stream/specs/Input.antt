@@ -8,7 +8,7 @@ use lib.ListN.{length, drop}
 use Rattle.de9im.specs.declared.refusal.Refusal.{Refusal}
 use Rattle.de9im.specs.Bytes.{bytes}
 use Rattle.de9im.specs.Text.{numbersOf}
-use Rattle.plan.specs.declared.Answer.the-variants.{Used, Refused}
+use Rattle.de9im.specs.declared.answer.Answer.the-variants.{Used, Refused}
 use Rattle.plan.specs.Record.{recordOf}
 use Rattle.stream.specs.declared.Told.the-variants as T
 use Rattle.stream.specs.declared.Outcome.{Outcome}

@@ -5,8 +5,8 @@ use Prim.Native.Nat.{ℕ}
 use mathlib.Core.Path.{_≡_}
 use mathlib.Core.Bool.{cond}
 use mathlib.Core.List.{List, [], _∷_, _++_}
-use Rattle.de9im.specs.declared.predicates.Predicate.{Predicate}
-use Rattle.de9im.specs.declared.predicates.Predicate.the-variants.{
+use Rattle.predicates.specs.declared.predicate.Predicate.{Predicate}
+use Rattle.predicates.specs.declared.predicate.Predicate.the-variants.{
   Disjoint,
   Intersects,
   Within,
@@ -23,8 +23,8 @@ use Rattle.de9im.specs.declared.refusal.Refusal.{Refusal}
 use Rattle.de9im.specs.Bytes.{bytes}
 use Rattle.de9im.specs.Cells.{matrixOf}
 use Rattle.de9im.specs.Matrix.{Matrix}
-use Rattle.de9im.specs.Names.{nameOf}
-use Rattle.de9im.specs.Predicates.{holds}
+use Rattle.predicates.specs.Names.{nameOf}
+use Rattle.predicates.specs.Predicates.{holds}
 use Rattle.de9im.specs.Refused.{numberOf}
 use Rattle.de9im.specs.Text.{textOf}
 use Rattle.io.specs.Digits.{digits, Fewest}

@@ -1,9 +1,9 @@
 // The whole records at the front of a buffer, poured one after the other.
+use de9im::answer::Answer;
 use de9im::cells::Cells;
 use de9im::refusal::Refusal;
-use plan::Answer;
 use plan::record::record;
-use plan::words::half_of;
+use plan::words::two_bytes;
 ghost use mathlib.Core.Path.{_≡_};
 ghost use mathlib.Core.Bool.{true};
 ghost use Prim.Native.Nat.{_+_, _≤_, _<_};
@@ -32,7 +32,7 @@ fn is_part(s: &[u8]) -> bool
     if s.len() < 2 {
         return true;
     }
-    s.len() < 2 + half_of(s[0], s[1])
+    s.len() < 2 + two_bytes(s[0], s[1])
 }
 
 fn stop_of(answer: Answer) -> Stop

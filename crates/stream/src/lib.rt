@@ -1,5 +1,5 @@
-// Plan records from standard input, any number of them in bounded memory, to the lines that the program prints. A program is
-// three lines over `run`.
+// Plan records from an open file, any number of them in bounded memory, to the lines that the program prints. The program is
+// three lines over `run`, with standard input for the file.
 pub mod drain;
 pub mod lines;
 pub mod reading;
@@ -14,7 +14,7 @@ pub enum Told {
     Accepted,
     // The first refused record, with its offset.
     Refused(Refusal, u64),
-    // Standard input could not be read.
+    // The input could not be read.
     Unreadable,
 }
 
@@ -24,9 +24,9 @@ pub struct Outcome {
     pub cells: Cells,
 }
 
-// Reads standard input to its end, or to the first refused record, and prints what is told of it.
-pub fn run() {
+// Reads an open file to its end, or to the first refused record, and prints what is told of it.
+pub fn run(fd: i32) {
     let mut out = [0u8; 256];
-    let n = lines::write_outcome(reading::read_all(), &mut out);
+    let n = lines::write_outcome(reading::read_all(fd), &mut out);
     io::write_all(STDOUT_FILENO, &out[..n]);
 }

@@ -1,11 +1,10 @@
-// Standard input, read into one buffer of 128 KiB: a record has at most 65,537 bytes, so there is always room for the rest of one.
+// The input, read into one buffer of 128 KiB: a record has at most 65,537 bytes, so there is always room for the rest of one.
 use crate::Outcome;
 use crate::Told;
 use crate::drain::Stop;
 use crate::drain::drain;
 use de9im::cells::Cells;
 use de9im::refusal::Refusal;
-use libc::STDIN_FILENO;
 ghost use mathlib.Core.Path.{_≡_};
 ghost use Prim.Native.Nat.{_+_, _-_, _≤_, _<_};
 ghost use lib.ListN.{length, take, drop};
@@ -115,12 +114,12 @@ fn got_of(got: isize, n: usize) -> Got
 }
 
 // One read, behind the bytes that are there.
-fn fill(buf: &mut [u8], have: usize) -> Got
+fn fill(fd: i32, buf: &mut [u8], have: usize) -> Got
     requires { ⌜ have < length (now buf) ⌝ }
     ensures { λ r. ⌜ Fits have (length (now (buf .entry))) r ⌝ }
     ensures { λ _. ⌜ take have (now (buf .exit)) ≡ take have (now (buf .entry)) ⌝ }
 {
-    let got = libc::read(STDIN_FILENO, &mut buf[have..]);
+    let got = libc::read(fd, &mut buf[have..]);
     let n = io::count(got, &buf[have..]);
     got_of(got, n)
 }
@@ -161,7 +160,7 @@ fn after(buf: &[u8], t: Round, got: Got) -> Round
 }
 
 // One read, and every record that is whole by then.
-fn turn(buf: &mut [u8], t: Round) -> Round
+fn turn(fd: i32, buf: &mut [u8], t: Round) -> Round
     requires { ⌜ Standing (now buf) t ⌝ }
     ensures { λ r. ⌜ Turned (now (buf .entry)) t (now (buf .exit)) r ⌝ }
 {
@@ -170,12 +169,12 @@ fn turn(buf: &mut [u8], t: Round) -> Round
     }
     let u = with_room(buf, t);
     let have = u.have;
-    let got = fill(buf, have);
+    let got = fill(fd, buf, have);
     after(buf, u, got)
 }
 
 // Turn after turn, until the input ends, a record is refused or a read fails.
-pub fn read_all() -> Outcome
+pub fn read_all(fd: i32) -> Outcome
     ensures { λ r. ⌜ Read r ⌝ }
 {
     let mut buf = [0u8; 131072];
@@ -187,7 +186,7 @@ pub fn read_all() -> Outcome
         cells: [0, 0, 0, 0, 0, 0, 0, 0, 3],
     };
     loop {
-        t = turn(&mut buf, t);
+        t = turn(fd, &mut buf, t);
         let next = t.next;
         let cells = t.cells;
         match next {

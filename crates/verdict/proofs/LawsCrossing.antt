@@ -6,14 +6,14 @@ use native.Mathlib.Omega.{arith}
 use borrow.Author.Tests.{lt-ltb, le-ltb, eq-eqb, ne-eqb, eqb-true, eqb-false}
 use lib.Dec.{eqb}
 use Rattle.de9im.specs.declared.«coordinate_position».CoordPos.the-variants.{Inside as I, Outside as E}
-use Rattle.de9im.specs.declared.predicates.Predicate.the-variants.{Crosses, Overlaps}
+use Rattle.predicates.specs.declared.predicate.Predicate.the-variants.{Crosses, Overlaps}
 use Rattle.de9im.specs.declared.dimensions.Dimensions.{Dimensions}
 use Rattle.de9im.specs.Cells.{numberAt}
 use Rattle.de9im.specs.Dimension.{dimNo}
 use Rattle.de9im.specs.Letters.{letterOf}
 use Rattle.de9im.specs.Matrix.{Matrix}
 use Rattle.de9im.specs.Patterns.{agreeAll}
-use Rattle.de9im.specs.Predicates.{holds, firstDim, secondDim}
+use Rattle.predicates.specs.Predicates.{holds, firstDim, secondDim}
 use Rattle.de9im.proofs.LawsDimension.{dim-small}
 
 -- the largest of three is 2 exactly when one of them is

@@ -14,8 +14,8 @@ use Rattle.de9im.specs.Dimension.{dimNo}
 use Rattle.de9im.specs.Letters.{agreeOf, agreeLetter}
 use Rattle.de9im.specs.Patterns.{isLetter}
 use Rattle.de9im.proofs.LawsDimension.{dim-small}
-use Rattle.verdict.specs.Table.{reachOf, firmOf, letterPasses}
-use Rattle.verdict.proofs.LawsBool.{not-both, and-left, and-right}
+use Rattle.verdict.specs.Inner.Table.{reachOf, firmOf, letterPasses}
+use Rattle.de9im.proofs.LawsBool.{clash, and-left, and-right}
 
 -- a number that agrees, if one at least as large does
 abbrev pub reached : DimensionMatcher → ℕ → ℕ
@@ -105,7 +105,7 @@ module _ (l : Letter) (n : ℕ) (good : isLetter l ≡ true) where
       go : (x : Letter) → n ≤ 3 → letterPasses reachOf x n ≡ true
           → Between n (byLetter reached x n) × (agreeLetter x (byLetter reached x n) ≡ true)
       go (Good w) h e = (reach-between w n h e, reach-agree w n)
-      go Bad h e = not-both e refl
+      go Bad h e = clash e refl
 
   pub letter-left : n ≤ 3 → Between n (byLetter left l n) × (agreeLetter l (byLetter left l n) ≡ true → letterPasses firmOf l n ≡ true)
   letter-left = go l

@@ -16,8 +16,9 @@ use Rattle.de9im.specs.Patterns.{WhollyGood}
 use Rattle.de9im.specs.Text.{firstBad}
 use Rattle.de9im.proofs.LawsForms.{nine-at}
 use Rattle.verdict.specs.Judges.{goodLetter, Given}
-use Rattle.verdict.specs.Table.{reachOf, firmOf, every, byHope}
+use Rattle.verdict.specs.Inner.Table.{reachOf, firmOf, every, byHope}
 use Rattle.verdict.proofs.LawsPattern.{numbers, pattern-sound}
+use Rattle.de9im.proofs.LawsApart.{impossible}
 
 -- a test at every place from k on
 abbrev pub everyFrom : (DimensionMatcher → ℕ → Bool) → List ℕ → List ℕ → ℕ → Bool
@@ -60,7 +61,7 @@ none-bad good k (b ∷ bs) e j h = go (good b) refl e j h (none-bad good (suc k)
         → good (getD (b ∷ bs) j 0) ≡ true
     go true g f zero l rest = g
     go true g f (suc j) l rest = rest f j (omega arith)
-    go false g f j l rest = absurd (let z : _≡_ {A = ℕ} 0 1 = cc in omega arith)
+    go false g f j l rest = impossible (cc)
 
 -- nine bytes, none bad, and both tests at their end: the verdict
 pub given : (p ns : List ℕ) (hope firm : Bool) → length p ≡ 9 → firstBad goodLetter 0 p ≡ Nowhere → every reachOf p (numbers ns) ≡ hope

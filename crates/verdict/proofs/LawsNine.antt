@@ -28,7 +28,7 @@ use Rattle.plan.specs.Run.{Accepts, Run, none, then}
 use Rattle.plan.proofs.LawsRun.{given-cell, accepted-by, run-rises}
 use Rattle.verdict.specs.declared.Verdict.the-variants.{Open}
 use Rattle.verdict.specs.Means.{Means, matchOf}
-use Rattle.verdict.specs.Table.{every}
+use Rattle.verdict.specs.Inner.Table.{every}
 use Rattle.verdict.proofs.LawsPattern.{numbers-at, says-yes, pattern-sound}
 
 -- the nine numbers added up, by row and column

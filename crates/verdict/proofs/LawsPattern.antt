@@ -20,8 +20,8 @@ use Rattle.de9im.proofs.LawsDimension.{number-back}
 use Rattle.de9im.proofs.LawsForms.{nine-at}
 use Rattle.de9im.proofs.LawsMatches.{yes-each, each-yes}
 use Rattle.verdict.specs.Means.{Always, Sometimes, Means, saysYes, matchOf}
-use Rattle.verdict.specs.Table.{reachOf, firmOf, letterPasses, every, byHope}
-use Rattle.verdict.proofs.LawsBool.{not-both, and-left, and-right}
+use Rattle.verdict.specs.Inner.Table.{reachOf, firmOf, letterPasses, every, byHope}
+use Rattle.de9im.proofs.LawsBool.{clash, and-left, and-right}
 use Rattle.verdict.proofs.LawsLetter.{
   reached,
   left,
@@ -59,8 +59,8 @@ module _ (t : DimensionMatcher → ℕ → Bool) where
 
 pub says-yes : (r : Matched) → saysYes r ≡ true → r ≡ Yes
 says-yes Yes e = refl
-says-yes No e = not-both e refl
-says-yes (Refused r) e = not-both e refl
+says-yes No e = clash e refl
+says-yes (Refused r) e = clash e refl
 
 module _ (p ns : List ℕ) (g : WhollyGood p) where
   abbrev answer : Matrix → Bool
@@ -94,7 +94,7 @@ module _ (p ns : List ℕ) (g : WhollyGood p) where
   hopeless e = always answer false ns (λ ts a. go ts a (answer (matrixOf ts)) refl)
     where
       go : (ts : List ℕ) → Above ns ts → (t : Bool) → answer (matrixOf ts) ≡ t → answer (matrixOf ts) ≡ false
-      go ts a true f = not-both (yes-reach ts a f) e
+      go ts a true f = clash (yes-reach ts a f) e
       go ts a false f = f
 
   settled : every firmOf p (numbers ns) ≡ true → Always (matchOf p) true ns
@@ -145,7 +145,7 @@ module _ (p ns : List ℕ) (g : WhollyGood p) where
   no-reached e = sometimes answer false ns (nine (moved left)) (moved-above left left-at) (go (answer (matrixOf (nine (moved left)))) refl)
     where
       go : (t : Bool) → answer (matrixOf (nine (moved left))) ≡ t → answer (matrixOf (nine (moved left))) ≡ false
-      go true f = not-both (left-yes f) e
+      go true f = clash (left-yes f) e
       go false f = f
 
   pub pattern-sound : (hope firm : Bool) → every reachOf p (numbers ns) ≡ hope → every firmOf p (numbers ns) ≡ firm

@@ -10,8 +10,8 @@ use lib.Dec.{eqb}
 use lib.ListN.{getD}
 use Rattle.de9im.specs.declared.«coordinate_position».CoordPos.the-variants.{Inside as I, OnBoundary as B, Outside as E}
 use Rattle.de9im.specs.declared.dimensions.Dimensions.the-variants.{TwoDimensional}
-use Rattle.de9im.specs.declared.predicates.Predicate.{Predicate}
-use Rattle.de9im.specs.declared.predicates.Predicate.the-variants.{
+use Rattle.predicates.specs.declared.predicate.Predicate.{Predicate}
+use Rattle.predicates.specs.declared.predicate.Predicate.the-variants.{
   Disjoint,
   Intersects,
   Within,
@@ -29,15 +29,15 @@ use Rattle.de9im.specs.Dimension.{dimNo, dimOf}
 use Rattle.de9im.specs.Letters.{letterOf}
 use Rattle.de9im.specs.Matrix.{Matrix}
 use Rattle.de9im.specs.Patterns.{agreeAll}
-use Rattle.de9im.specs.Predicates.{holds, isF, both, disjoint, firstDim, secondDim}
+use Rattle.predicates.specs.Predicates.{holds, isF, both, disjoint, firstDim, secondDim}
 use Rattle.de9im.specs.Text.{nine}
 use Rattle.de9im.proofs.LawsDimension.{dim-back, dim-small, number-back}
 use Rattle.de9im.proofs.LawsForms.{nine-at}
 use Rattle.verdict.specs.declared.Verdict.{Verdict}
 use Rattle.verdict.specs.declared.Verdict.the-variants.{YesForGood, NoForGood, Open}
 use Rattle.verdict.specs.Means.{Always, Sometimes, Both, Means, answerOf}
-use Rattle.verdict.specs.Table.{inner, outer, clear, overlapStays, verdictOf}
-use Rattle.verdict.proofs.LawsBool.{either-not, and-left, and-right, not-false, not-true}
+use Rattle.verdict.specs.Inner.Table.{inner, outer, clear, overlapStays, verdictOf}
+use Rattle.de9im.proofs.LawsBool.{either-not, and-left, and-right, not-false, not-true}
 use Rattle.verdict.proofs.LawsCrossing.{
   crosses-below,
   crosses-above,

@@ -18,6 +18,7 @@ use Rattle.de9im.specs.Matrix.{atLeastOf}
 use Rattle.de9im.specs.Position.{known, rowOf, codedOf}
 use Rattle.de9im.proofs.LawsForms.{matrix-shaped}
 use Rattle.de9im.proofs.LawsPatterns.{cells-at}
+use Rattle.star.specs.Calls.{completedStar, pouredStar}
 use Rattle.star.specs.Completing.{any, missingLeft, startOf, walkOf, filledOf}
 use Rattle.star.specs.Label.{isNone}
 use Rattle.star.specs.Pouring.{pourNode, pourLabel, pourLabels, into}
@@ -25,8 +26,9 @@ use Rattle.star.specs.Star.{dirsFrom}
 use Rattle.star.proofs.LawsPouring.{raise-cell}
 use Rattle.plan.specs.EndBytes.{readEnds}
 use Rattle.plan.specs.LabelBytes.{sidesAt, labelAt}
-use Rattle.plan.specs.Record.{nodeOf, edgeOf, recordOf}
+use Rattle.plan.specs.Record.{recordOf}
 use Rattle.plan.specs.Run.{Accepts}
+use Rattle.plan.specs.Said.{edgeOf, nodeAt, nodeBody, nodeOf, saidOf}
 use Rattle.plan.proofs.LawsRun.{given-cell}
 use Rattle.verdict.specs.Means.{isBytes}
 
@@ -68,7 +70,8 @@ raiser-bytes p q TwoDimensional = simp code-byte
 -- it is accepted, and raises
 pub raiser-accepted : (ns : List ℕ) (p q : CoordPos) (d : Dimensions) → 0 < dimNo d
     → Accepts ns (raiser d p q) (cellsOf (atLeastOf (matrixOf ns) (known p) (known q) d))
-unfolding recordOf nodeOf edgeOf labelAt sidesAt readEnds missingLeft any walkOf startOf filledOf dirsFrom pourNode pourLabel pourLabels
+unfolding recordOf saidOf nodeOf nodeBody nodeAt edgeOf labelAt sidesAt readEnds pouredStar completedStar
+    missingLeft any walkOf startOf filledOf dirsFrom pourNode pourLabel pourLabels
 raiser-accepted ns p q Empty h = absurd (omega arith)
 raiser-accepted ns p q ZeroDimensional h = record { used = 9; answer = simp (code-back, is-known) }
 raiser-accepted ns p q OneDimensional h = record { used = 11; answer = simp code-back }

@@ -16,21 +16,22 @@ use Rattle.verdict.specs.declared.pattern.Judged.{Judged}
 use Rattle.verdict.specs.declared.pattern.Judged.the-variants.{Is, Refused}
 use Rattle.verdict.specs.Judges.{goodLetter, Refuses, not-nine, bad-byte, Judges}
 use Rattle.verdict.specs.Means.{isBytes, Always, Sometimes, Means, matchOf}
-use Rattle.verdict.proofs.LawsBool.{not-both}
+use Rattle.de9im.proofs.LawsBool.{clash}
+use Rattle.de9im.proofs.LawsApart.{impossible}
 
 module _ (answer : List ℕ → Bool) (ns : List ℕ) where
   -- what every run ends in, none can end otherwise in
   yes-never : {A : Type 0} → Always answer true ns → Sometimes answer false ns → A
-  yes-never f s = not-both (f (s .records) (s .after) (s .bytes) (s .accepted)) (s .says)
+  yes-never f s = clash (f (s .records) (s .after) (s .bytes) (s .accepted)) (s .says)
 
   no-never : {A : Type 0} → Always answer false ns → Sometimes answer true ns → A
-  no-never f s = not-both (s .says) (f (s .records) (s .after) (s .bytes) (s .accepted))
+  no-never f s = clash (s .says) (f (s .records) (s .after) (s .bytes) (s .accepted))
 
   pub one-verdict : (v w : Verdict) → Means v answer ns → Means w answer ns → v ≡ w
   one-verdict YesForGood YesForGood f g = refl
-  one-verdict YesForGood NoForGood f g = not-both (f [] ns refl none) (g [] ns refl none)
+  one-verdict YesForGood NoForGood f g = clash (f [] ns refl none) (g [] ns refl none)
   one-verdict YesForGood Open f g = yes-never f (g .ends-no)
-  one-verdict NoForGood YesForGood f g = not-both (g [] ns refl none) (f [] ns refl none)
+  one-verdict NoForGood YesForGood f g = clash (g [] ns refl none) (f [] ns refl none)
   one-verdict NoForGood NoForGood f g = refl
   one-verdict NoForGood Open f g = no-never f (g .ends-yes)
   one-verdict Open YesForGood f g = yes-never g (f .ends-no)
@@ -68,7 +69,7 @@ one-refusal (bad-byte h e) (bad-byte k f) = cc
 good-none : (good : ℕ → Bool) (i k : ℕ) (bs : List ℕ) → ((j : ℕ) → j < length bs → good (getD bs j 0) ≡ true) → firstBad good i bs ≡ At k
     → ⊥
 unfolding firstBad
-good-none good i k [] g e = let z : _≡_ {A = ℕ} 0 1 = cc in omega arith
+good-none good i k [] g e = impossible (cc)
 good-none good i k (b ∷ bs) g e =
     good-none good (suc i) k bs (λ j h. g (suc j) (omega arith)) (rw (g 0 (omega arith)) at e)
 

@@ -1,5 +1,4 @@
 -- Facts about the definitions of specs/, each stated once.
-pub mod LawsBool
 pub mod LawsRaise
 pub mod LawsReach
 pub mod LawsVerdict
@@ -9,4 +8,4 @@ pub mod LawsLetter
 pub mod LawsPattern
 pub mod LawsLoop
 pub mod LawsNine
-pub mod Examples
+pub mod LawsNumbers

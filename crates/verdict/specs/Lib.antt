@@ -1,4 +1,5 @@
 -- What a reader of this crate must believe: each file opens with the sentence of document 01 that it writes down.
 pub mod Means
 pub mod Judges
-pub mod Table
+pub mod Answers
+pub mod Inner

@@ -9,12 +9,12 @@ use mathlib.Core.Bool.{Bool, true, false, _&&_}
 use mathlib.Core.List.{List, [], _∷_}
 use lib.Dec.{ltb}
 use lib.ListN.{length}
-use Rattle.de9im.specs.declared.predicates.Predicate.{Predicate}
+use Rattle.predicates.specs.declared.predicate.Predicate.{Predicate}
 use Rattle.de9im.specs.declared.patterns.Matched.{Matched}
 use Rattle.de9im.specs.declared.patterns.Matched.the-variants.{Yes, No, Refused}
 use Rattle.de9im.specs.Cells.{matrixOf}
 use Rattle.de9im.specs.Patterns.{matchesOf}
-use Rattle.de9im.specs.Predicates.{holds}
+use Rattle.predicates.specs.Predicates.{holds}
 use Rattle.plan.specs.Run.{Run}
 use Rattle.verdict.specs.declared.Verdict.{Verdict}
 use Rattle.verdict.specs.declared.Verdict.the-variants.{YesForGood, NoForGood, Open}

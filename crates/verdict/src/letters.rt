@@ -4,7 +4,7 @@ use de9im::dimensions::Dimensions;
 use de9im::dimensions::number;
 ghost use mathlib.Core.Path.{_≡_};
 ghost use Rattle.de9im.specs.Dimension.{dimNo};
-ghost use Rattle.verdict.specs.Table.{reachOf, firmOf};
+ghost use Rattle.verdict.specs.Inner.Table.{reachOf, firmOf};
 
 // Some dimension at least as large agrees.
 pub(crate) fn can_reach(w: DimensionMatcher, d: Dimensions) -> bool

@@ -6,17 +6,17 @@ use de9im::cells::from_cells;
 use de9im::dimensions::Dimensions;
 use de9im::dimensions::number;
 use de9im::intersection_matrix::IntersectionMatrix;
-use de9im::predicates::Predicate;
-use de9im::predicates::is_disjoint;
+use predicates::predicate::Predicate;
+use predicates::predicate::is_disjoint;
 ghost use mathlib.Core.Path.{_≡_};
 ghost use lib.Dec.{eqb};
 ghost use Prim.Native.Nat.{max};
 ghost use Rattle.de9im.specs.declared.dimensions.Dimensions.the-variants.{TwoDimensional};
 ghost use Rattle.de9im.specs.Cells.{cellsOf};
 ghost use Rattle.de9im.specs.Dimension.{dimNo};
-ghost use Rattle.de9im.specs.Predicates.{both};
+ghost use Rattle.predicates.specs.Predicates.{both};
 ghost use Rattle.verdict.specs.Means.{Means, answerOf};
-ghost use Rattle.verdict.specs.Table.{inner, outer, clear, overlapStays, verdictOf};
+ghost use Rattle.verdict.specs.Inner.Table.{inner, outer, clear, overlapStays, verdictOf};
 
 fn is_f(d: Dimensions) -> bool
     ensures { λ r. ⌜ r ≡ eqb (dimNo d) 0 ⌝ }

@@ -7,10 +7,10 @@ use Rattle.de9im.specs.declared.refusal.Refusal.the-variants.{BadByte}
 use Rattle.de9im.specs.Bytes.{bytes}
 use Rattle.de9im.specs.Letters.{letterOf}
 use Rattle.de9im.specs.Patterns.{walk, matchesOf, agreeAll}
-use Rattle.de9im.specs.Predicates.{holds}
+use Rattle.predicates.specs.Predicates.{holds}
 use Rattle.de9im.specs.Text.{cellLetterOf, firstBad}
 use Rattle.star.specs.Bundle.{count, onJoined, sideJoined, halfJoined, joinOf}
-use Rattle.star.specs.Calls.{bundledOf}
+use Rattle.star.specs.Calls.{bundledOf, completedStar, pouredStar}
 use Rattle.star.specs.Completing.{startOf, walkFrom, walkOf, any, missingLeft, filledOf}
 use Rattle.star.specs.Direction.{orderOf}
 use Rattle.star.specs.Ends.{firstFault, checkedOf}
@@ -18,18 +18,20 @@ use Rattle.star.specs.Pouring.{pourNode, pourLabel, pourLabels}
 use Rattle.star.specs.Star.{insertDir, dirsFrom, keep}
 use Rattle.plan.specs.EndBytes.{dirAt, endAt, readEnds}
 use Rattle.plan.specs.LabelBytes.{sidesAt, labelAt}
-use Rattle.plan.specs.Record.{nodeOf, recordOf}
+use Rattle.plan.specs.Record.{recordOf}
 use Rattle.plan.specs.Report.{reportBytes, wroteOf, writtenOf}
+use Rattle.plan.specs.Said.{nodeAt, nodeBody, nodeOf, saidOf}
 use Rattle.place.specs.Places.{finite, isPlace}
 use Rattle.place.specs.Relate.{relateOf}
 use Rattle.place.specs.Rules.{boxBox, related}
+use Rattle.stream.specs.Lines.{lineOf, answersOf}
 use Rattle.verdict.specs.Judges.{Judges, bad-byte}
-use Rattle.verdict.specs.Table.{every}
+use Rattle.verdict.specs.Inner.Table.{every}
 use Rattle.verdict.specs.declared.Verdict.the-variants.{Open, NoForGood}
 use Rattle.verdict.specs.declared.pattern.Judged.the-variants as J
 use Rattle.verdict.proofs.LawsLoop.{given}
 use Rattle.worked.specs.Example.{Every, none, _and_, cells}
-use Rattle.worked.specs.Examples.{p1-to-p14, edges}
+use Rattle.worked.specs.Examples.{p1-to-p14, printed, edges}
 
 -- the verdict's two: a bad byte; and by what the letters can still come to
 p7 : Judges (J.Refused (BadByte 2)) (bytes "T*X******") (cells "FFFFFFFF2")
@@ -45,7 +47,7 @@ unfolding firstBad letterOf every cellLetterOf
 p8-no = given (bytes "FF*FF****") (cells "0FFFFFFF2") false false refl refl refl refl
 
 pub all-hold : Every p1-to-p14
-unfolding recordOf nodeOf readEnds endAt dirAt labelAt sidesAt cellLetterOf
+unfolding recordOf saidOf nodeOf nodeBody nodeAt pouredStar completedStar readEnds endAt dirAt labelAt sidesAt cellLetterOf
     orderOf count onJoined sideJoined halfJoined joinOf insertDir dirsFrom keep startOf walkFrom walkOf any missingLeft filledOf
     pourNode pourLabel pourLabels holds agreeAll letterOf matchesOf walk
     lt eq ofInt finite isPlace boxBox related relateOf bundledOf checkedOf firstFault
@@ -53,8 +55,12 @@ all-hold =
     refl and refl and refl and refl and refl and refl and p7 and p8-open and p8-no and refl and refl and refl and refl and refl and refl and
     refl and none
 
+pub printed-holds : Every printed
+unfolding answersOf lineOf holds agreeAll letterOf cellLetterOf
+printed-holds = refl and none
+
 pub edges-hold : Every edges
-unfolding recordOf nodeOf readEnds endAt dirAt labelAt sidesAt cellLetterOf
+unfolding recordOf saidOf nodeOf nodeBody nodeAt pouredStar completedStar readEnds endAt dirAt labelAt sidesAt cellLetterOf
     orderOf count onJoined sideJoined halfJoined joinOf insertDir dirsFrom keep startOf walkFrom walkOf any missingLeft filledOf
     pourNode pourLabel pourLabels wroteOf writtenOf reportBytes
 edges-hold = refl and refl and refl and refl and refl and none

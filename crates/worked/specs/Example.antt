@@ -4,28 +4,29 @@ use Prim.Native.Nat.{ℕ, zero, suc}
 use Prim.Native.String.{String}
 use mathlib.Core.Path.{_≡_}
 use mathlib.Core.Bool.{Bool}
-use mathlib.Core.List.{List, [], _∷_}
+use mathlib.Core.List.{List, [], _∷_, _++_}
 use lib.ListN.{length}
-use Rattle.de9im.specs.declared.predicates.Predicate.{Predicate}
+use Rattle.predicates.specs.declared.predicate.Predicate.{Predicate}
 use Rattle.de9im.specs.declared.patterns.Matched.{Matched}
 use Rattle.de9im.specs.declared.refusal.Refusal.{Refusal}
 use Rattle.de9im.specs.Bytes.{bytes}
 use Rattle.de9im.specs.Cells.{matrixOf}
 use Rattle.de9im.specs.Patterns.{matchesOf}
-use Rattle.de9im.specs.Predicates.{holds}
+use Rattle.predicates.specs.Predicates.{holds}
 use Rattle.de9im.specs.Text.{numbersOf}
 use Rattle.star.specs.declared.label.Label.{Label}
 use Rattle.star.specs.declared.«edge_end».EdgeEnd.{EdgeEnd}
 use Rattle.star.specs.declared.«edge_end_bundle».Bundled.the-variants.{Joined}
 use Rattle.star.specs.Calls.{bundledOf}
 use Rattle.star.specs.Ends.{noEnd}
-use Rattle.plan.specs.declared.Answer.{Answer}
-use Rattle.plan.specs.declared.Answer.the-variants.{Used, Refused}
+use Rattle.de9im.specs.declared.answer.Answer.{Answer}
+use Rattle.de9im.specs.declared.answer.Answer.the-variants.{Used, Refused}
 use Rattle.plan.specs.Record.{recordOf}
 use Rattle.plan.specs.Report.{wroteOf, writtenOf}
 use Rattle.place.specs.declared.places.Place.{Place}
-use Rattle.place.specs.declared.relate.Related.the-variants.{Accepted}
+use Rattle.de9im.specs.declared.answer.Checked.the-variants.{Fine}
 use Rattle.place.specs.Relate.{relateOf}
+use Rattle.stream.specs.Lines.{answersOf}
 use Rattle.verdict.specs.declared.pattern.Judged.{Judged}
 use Rattle.verdict.specs.Judges.{Judges}
 
@@ -38,6 +39,11 @@ abbrev pub slots : ℕ → List EdgeEnd → List EdgeEnd
 slots zero es = []
 slots (suc n) [] = noEnd ∷ slots n []
 slots (suc n) (e ∷ es) = e ∷ slots n es
+
+-- lines one after the other, each ending in a newline
+abbrev pub lined : List String → List ℕ
+lined [] = []
+lined (l ∷ ls) = bytes l ++ (bytes "\n" ++ lined ls)
 
 pub data Example : Type 0 where
   -- a record's bytes on a matrix: the bytes used and the matrix after it
@@ -54,6 +60,8 @@ pub data Example : Type 0 where
   places-give : (first second : Place) (m : String) → Example
   -- the joined label of a bundle call
   bundle-gives : (ends : List EdgeEnd) (l : Label) → Example
+  -- what the program prints of a matrix
+  program-prints : (m : String) (lines : List String) → Example
   -- a report of a matrix written into a buffer at an offset: the bytes used, and what the buffer then holds
   report-gives : (m : String) (buf : List ℕ) (offset used : ℕ) (after : List ℕ) → Example
   -- the same, refused: no byte of the buffer differs
@@ -69,8 +77,9 @@ says (record-refused before s r) = recordOf (cells before) s ≡ record { answer
 says (predicate-says p m answer) = holds p (matrixOf (cells m)) ≡ answer
 says (pattern-says p m answer) = matchesOf (matrixOf (cells m)) (bytes p) ≡ answer
 says (verdict-says p m answer) = Judges answer (bytes p) (cells m)
-says (places-give first second m) = relateOf first second ≡ record { related = Accepted; cells = cells m }
+says (places-give first second m) = relateOf first second ≡ record { answer = Fine; cells = cells m }
 says (bundle-gives ends l) = bundledOf (slots 32 ends) (length ends) ≡ Joined l
+says (program-prints m lines) = answersOf (cells m) ≡ lined lines
 says (report-gives m buf offset used after) = written m buf offset ≡ (Used used, after)
 says (report-refused m buf offset r) = written m buf offset ≡ (Refused r, buf)
 

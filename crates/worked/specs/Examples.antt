@@ -1,5 +1,5 @@
--- Document 01, "Examples to prove": P1 to P14; and "At the edges: 32 ends pass, 33 are 5; a node without ends passes; offset 0 in 12 bytes
--- passes, offset 1 is 12."
+-- Document 01, "Examples to prove": P1 to P14; "The program's output .. here for P1"; and "At the edges: 32 ends pass, 33 are 5; a node
+-- without ends passes; offset 0 in 12 bytes passes, offset 1 is 12."
 use Prim.Native.Nat.{ℕ, zero, suc}
 use mathlib.Core.Bool.{true, false}
 use mathlib.Core.List.{List, [], _∷_, _++_}
@@ -8,7 +8,7 @@ use lib.Ieee.{ofInt, binary64}
 use Rattle.de9im.specs.declared.«coordinate_position».Position.{Position}
 use Rattle.de9im.specs.declared.«coordinate_position».Position.the-variants.{None, Inside, OnBoundary}
 use Rattle.de9im.specs.declared.patterns.Matched.the-variants.{No, Refused}
-use Rattle.de9im.specs.declared.predicates.Predicate.the-variants.{EqualTopo, Crosses, Overlaps}
+use Rattle.predicates.specs.declared.predicate.Predicate.the-variants.{EqualTopo, Crosses, Overlaps}
 use Rattle.de9im.specs.declared.refusal.Refusal.the-variants.{BadByte, Ends, NoRoom}
 use Rattle.de9im.specs.Bytes.{bytes}
 use Rattle.star.specs.declared.label.Label.{Label}
@@ -27,6 +27,7 @@ use Rattle.worked.specs.Example.{
   verdict-says,
   places-give,
   bundle-gives,
+  program-prints,
   report-gives,
   report-refused,
 }
@@ -111,6 +112,24 @@ p1-to-p14 =
     -- P14
     bundle-gives (boundaryEnd ∷ boundaryEnd ∷ []) (line Inside) ∷
     bundle-gives (boundaryEnd ∷ boundaryEnd ∷ boundaryEnd ∷ []) (line OnBoundary) ∷ []
+
+-- as document 01 shows it for P1
+abbrev pub printed : List Example
+printed =
+    program-prints "212101212" (
+    "212101212" ∷
+    "disjoint no" ∷
+    "intersects yes" ∷
+    "within no" ∷
+    "contains no" ∷
+    "equal_topo no" ∷
+    "coveredby no" ∷
+    "covers no" ∷
+    "contains_properly no" ∷
+    "touches no" ∷
+    "crosses no" ∷
+    "overlaps yes" ∷
+    []) ∷ []
 
 -- n ends of a line, on B for both, all in one direction
 abbrev pub many : ℕ → List ℕ

@@ -61,7 +61,7 @@ impl Run {
         }
         let replies = self.library.answer_plans(&self.waiting_plans);
         for (call, reply) in self.waiting_plans.drain(..).zip(replies) {
-            self.tally.take_plan(self.kind, &call, reply.as_ref());
+            self.tally.take_plan(self.kind, &call, &reply);
         }
     }
 

@@ -3,28 +3,19 @@
 use super::tally::Tally;
 use crate::asked_star::{self, PlanSaid};
 use crate::ours::plans::{PlanCall, PlanOp, PlanReply};
-use crate::rule_plan::{self, PlanOutcome};
-use std::collections::{BTreeMap, BTreeSet};
-
-/// The numbers that each function can give: a run that doesn't meet all of them has looked at too little.
-const REACHABLE: [(PlanOp, &[u32]); 5] = [
-    (PlanOp::Bundle, &[4, 5, 6, 7, 8]),
-    (PlanOp::Star, &[4, 5, 6, 7, 8, 9]),
-    (PlanOp::Record, &[1, 2, 3, 4, 5, 6, 7, 8, 9]),
-    (PlanOp::ReadReport, &[1, 2, 4, 11]),
-    (PlanOp::WriteReport, &[12]),
-];
+use crate::rule;
+use crate::rule_plan::{self, PlanOutcome, REACHABLE};
+use crate::rule_star::SINGLE_SIDE;
+use std::collections::BTreeMap;
 
 #[derive(Default)]
 pub struct Numbers {
     /// How often each function had to give each number.
     refused: BTreeMap<(PlanOp, u32), u64>,
-    /// Functions that couldn't be asked of the library.
-    missing: BTreeSet<PlanOp>,
 }
 
 impl Numbers {
-    /// Prints both, and answers how many numbers were never met.
+    /// Prints them, and answers how many numbers were never met.
     pub fn report(&self) -> u64 {
         let mut unmet = 0;
         for (op, numbers) in REACHABLE {
@@ -36,12 +27,6 @@ impl Numbers {
             println!("{}, refusals by number: {}", op.name(), counts.join(", "));
             unmet += numbers.iter().filter(|number| times(number) == 0).count() as u64;
         }
-        for op in &self.missing {
-            println!(
-                "{}: not in this library yet; crate and document 01 alone are compared",
-                op.name()
-            );
-        }
         if unmet != 0 {
             println!("{unmet} numbers above were never met: the calls made are too few");
         }
@@ -51,10 +36,10 @@ impl Numbers {
 
 impl Tally {
     /// Counts one call; prints it if two sides differ.
-    pub fn take_plan(&mut self, kind: &str, call: &PlanCall, reply: Option<&PlanReply>) {
+    pub fn take_plan(&mut self, kind: &str, call: &PlanCall, reply: &PlanReply) {
         let due = rule_plan::outcome(call);
         let said = asked_star::said(call);
-        let faults = faults(call, &due, said.as_ref(), reply);
+        let faults = faults(&due, said.as_ref(), reply);
         if !faults.is_empty() {
             println!(
                 "DIFFERENCE ({kind}) {}: {}; {}",
@@ -63,12 +48,9 @@ impl Tally {
                 describe_answers(&due, said.as_ref(), reply)
             );
         }
-        let number = rule_plan::refusal(call.op, due.word);
+        let number = rule::number(due.word);
         if let Some(number) = number {
             *self.numbers.refused.entry((call.op, number)).or_default() += 1;
-        }
-        if reply.is_none() {
-            self.numbers.missing.insert(call.op);
         }
         // A refusal of the reader that stands before the crate says nothing of the crate.
         let asked = said.is_some() && number.is_none_or(|number| number == 9);
@@ -81,19 +63,14 @@ impl Tally {
 }
 
 /// Whether the crate's answer is this word with these bytes; its panic is refusal 9.
-fn agrees(call: &PlanCall, said: &PlanSaid, word: u32, out: &[u8]) -> bool {
+fn agrees(said: &PlanSaid, word: u32, out: &[u8]) -> bool {
     match said {
-        PlanSaid::Panicked => rule_plan::refusal(call.op, word) == Some(9),
+        PlanSaid::Panicked => word == SINGLE_SIDE,
         PlanSaid::Gave { word: w, out: o } => *w == word && o == out,
     }
 }
 
-fn faults(
-    call: &PlanCall,
-    due: &PlanOutcome,
-    said: Option<&PlanSaid>,
-    reply: Option<&PlanReply>,
-) -> Vec<&'static str> {
+fn faults(due: &PlanOutcome, said: Option<&PlanSaid>, reply: &PlanReply) -> Vec<&'static str> {
     let mut faults = Vec::new();
     let mut fault = |holds: bool, name| {
         if holds {
@@ -101,14 +78,9 @@ fn faults(
         }
     };
     if let Some(said) = said {
-        let agree = agrees(call, said, due.word, &due.out);
+        let agree = agrees(said, due.word, &due.out);
         fault(!agree, "the crate's answer isn't document 01's");
-    }
-    let Some(reply) = reply else {
-        return faults;
-    };
-    if let Some(said) = said {
-        let agree = agrees(call, said, reply.word, &reply.out);
+        let agree = agrees(said, reply.word, &reply.out);
         fault(!agree, "our answer isn't the crate's");
     }
     fault(reply.word != due.word, "our word isn't document 01's");
@@ -135,23 +107,17 @@ fn describe(call: &PlanCall) -> String {
     format!("{}{given}, bytes {}", call.op.name(), hex(&call.bytes))
 }
 
-fn describe_answers(
-    due: &PlanOutcome,
-    said: Option<&PlanSaid>,
-    reply: Option<&PlanReply>,
-) -> String {
+fn describe_answers(due: &PlanOutcome, said: Option<&PlanSaid>, reply: &PlanReply) -> String {
     let said = match said {
         Some(PlanSaid::Gave { word, out }) => format!("{word:#x} {}", hex(out)),
         Some(PlanSaid::Panicked) => "panics".into(),
         None => "can't be asked".into(),
     };
-    let ours = match reply {
-        Some(reply) => format!("{:#x} {}", reply.word, hex(&reply.out)),
-        None => "not in this library yet".into(),
-    };
     format!(
-        "document 01: {:#x} {}; the crate: {said}; ours: {ours}",
+        "document 01: {:#x} {}; the crate: {said}; ours: {:#x} {}",
         due.word,
-        hex(&due.out)
+        hex(&due.out),
+        reply.word,
+        hex(&reply.out)
     )
 }

@@ -124,12 +124,15 @@ fn damaged_ends(run: &mut Run) -> Vec<u8> {
 }
 
 fn bad_areas(run: &mut Run) {
-    run.begin("star, an area code above 3, ends with a fault or without");
+    run.begin("star, an area code above 3, ends with a fault or without, some no whole ends");
     for bad in BAD_AREAS {
         for other in (0..4).chain(BAD_AREAS) {
             for (a, b) in [(bad, other), (other, bad)] {
                 for _ in 0..run.times(20) {
-                    let ends = damaged_ends(run);
+                    let mut ends = damaged_ends(run);
+                    if run.random.below(4) == 0 {
+                        ends.push(run.random.byte());
+                    }
                     run.ask_plan(PlanCall::star(ends, a, b));
                 }
             }

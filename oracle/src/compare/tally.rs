@@ -79,7 +79,7 @@ impl Tally {
         count.calls += 1;
         let yes_or_no = matches!(call.op, Op::Matches | Op::Predicate) || is_verdict;
         count.yes += u64::from(yes_or_no && due.word == 1);
-        count.refused += u64::from(call.op != Op::Predicates && rule::refuses(due.word));
+        count.refused += u64::from(rule::refuses(due.word));
         count.not_asked += u64::from(said.is_none());
         count.listed += u64::from(listed);
         count.unlisted += u64::from(!faults.is_empty());
@@ -258,6 +258,7 @@ fn describe(call: &Call) -> String {
         Op::Matches | Op::FromText | Op::Raise | Op::VerdictPattern => {
             format!("{:?} {} on {cells}", call.op, text())
         }
+        Op::PredicateNamed => format!("{:?} {}", call.op, text()),
         Op::Set | Op::SetAtLeast => format!(
             "{:?} ({}, {}) to {} on {cells}",
             call.op, call.a, call.b, call.dimension
@@ -271,7 +272,7 @@ fn describe_answers(due: &Outcome, said: Option<&Said>, reply: &Reply) -> String
         None => "can't be asked".into(),
     };
     format!(
-        "document 01: {} {:?}; the crate: {said}; ours: {} {:?}",
+        "document 01: {:#x} {:?}; the crate: {said}; ours: {:#x} {:?}",
         due.word, due.nine, reply.word, reply.nine
     )
 }

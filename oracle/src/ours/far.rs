@@ -1,6 +1,6 @@
 //! The library in a program of its own (far/far_side.c), for a processor that the library isn't built for.
 //!
-//! build.rs compiles that program for x86-64, links libgateway.a into it and names the emulator. The records of a
+//! build.rs compiles that program for x86-64, links libmisonkandi.a into it and names the emulator. The records of a
 //! batch are sent, all of them are read there, then all answers come back: neither side waits on a full pipe.
 
 use super::plans::{self, PlanCall, PlanReply};
@@ -69,17 +69,13 @@ impl FarSide {
         returned.chunks_exact(RETURNED).map(raw).collect()
     }
 
-    /// None where the library hasn't the function; the others go in batches that the far side has room for.
-    pub(super) fn answer_plans(&mut self, calls: &[PlanCall]) -> Vec<Option<PlanReply>> {
+    /// They go in batches that the far side has room for.
+    pub(super) fn answer_plans(&mut self, calls: &[PlanCall]) -> Vec<PlanReply> {
         let mut replies = Vec::with_capacity(calls.len());
         let mut batch = Vec::new();
         let mut first = 0;
         for (place, call) in calls.iter().enumerate() {
-            let sent = if call.op.is_in_library() {
-                plan_sent(call)
-            } else {
-                Vec::new()
-            };
+            let sent = plan_sent(call);
             if batch.len() + sent.len() > PLAN_BATCH {
                 self.answer_plan_batch(&calls[first..place], &mut batch, &mut replies);
                 first = place;
@@ -94,7 +90,7 @@ impl FarSide {
         &mut self,
         calls: &[PlanCall],
         batch: &mut Vec<u8>,
-        replies: &mut Vec<Option<PlanReply>>,
+        replies: &mut Vec<PlanReply>,
     ) {
         if !batch.is_empty() {
             let head = PLANS | batch.len() as u32;
@@ -108,12 +104,8 @@ impl FarSide {
         }
         let mut rest = batch.as_slice();
         for call in calls {
-            if !call.op.is_in_library() {
-                replies.push(None);
-                continue;
-            }
             let (returned, after) = rest.split_at(PLAN_HEAD + call.lent().len());
-            replies.push(Some(plan_reply(call, returned)));
+            replies.push(plan_reply(call, returned));
             rest = after;
         }
         batch.clear();

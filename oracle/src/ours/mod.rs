@@ -35,6 +35,7 @@ pub enum Op {
     Transpose = 8,
     Verdict = 9,
     VerdictPattern = 10,
+    PredicateNamed = 11,
 }
 
 /// One call. What an operation doesn't take is 0.
@@ -94,6 +95,10 @@ impl Call {
             dimension,
             ..Call::plain(op, cells)
         }
+    }
+
+    pub fn named(name: &[u8]) -> Self {
+        Call::with_text(Op::PredicateNamed, [0; 9], name)
     }
 
     pub fn text(&self) -> &[u8] {
@@ -167,12 +172,12 @@ impl Library {
             .collect()
     }
 
-    /// Answers the calls on ends, records and reports in order; None where the library hasn't the function.
-    pub fn answer_plans(&mut self, calls: &[PlanCall]) -> Vec<Option<PlanReply>> {
+    /// Answers the calls on ends, records and reports in order.
+    pub fn answer_plans(&mut self, calls: &[PlanCall]) -> Vec<PlanReply> {
         #[cfg(far)]
         let replies = self.side.answer_plans(calls);
         #[cfg(not(far))]
-        let replies = calls.iter().map(plans::answer_if_there).collect();
+        let replies = calls.iter().map(plans::answer).collect();
         replies
     }
 

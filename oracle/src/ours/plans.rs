@@ -10,6 +10,8 @@ use super::linked;
 /// Room for a star's labels: 32 of seven bytes.
 pub const LABELS: usize = 224;
 
+/// What a label lent holds before the call: a byte that no answer has, so that one that isn't written shows.
+const HELD: u8 = 9;
 const GUARD: usize = 16;
 const GUARD_BYTE: u8 = 0x5A;
 
@@ -34,15 +36,6 @@ impl PlanOp {
             PlanOp::WriteReport => "misonkandi_write_report",
         }
     }
-
-    /// Whether the library that the oracle is built with has the function.
-    pub fn is_in_library(self) -> bool {
-        match self {
-            PlanOp::Bundle | PlanOp::Star => cfg!(has_stars),
-            PlanOp::Record => cfg!(has_records),
-            PlanOp::ReadReport | PlanOp::WriteReport => cfg!(has_reports),
-        }
-    }
 }
 
 /// One call. What an operation doesn't take is 0.
@@ -59,11 +52,10 @@ pub struct PlanCall {
 }
 
 impl PlanCall {
-    /// `out` is filled with a byte that no answer has, so that a byte that isn't written shows.
     pub fn bundle(ends: Vec<u8>) -> Self {
         PlanCall {
             op: PlanOp::Bundle,
-            out: vec![0xC3; 7],
+            out: vec![HELD; 7],
             bytes: ends,
             a: 0,
             b: 0,
@@ -74,7 +66,7 @@ impl PlanCall {
     pub fn star(ends: Vec<u8>, a: u32, b: u32) -> Self {
         PlanCall {
             op: PlanOp::Star,
-            out: vec![0xC3; LABELS],
+            out: vec![HELD; LABELS],
             a,
             b,
             ..PlanCall::bundle(ends)
@@ -142,14 +134,9 @@ pub(super) fn reply(call: &PlanCall, word: u32, lent: &[u8]) -> PlanReply {
     }
 }
 
-#[cfg(all(linked, not(far)))]
-pub(super) fn answer_if_there(call: &PlanCall) -> Option<PlanReply> {
-    call.op.is_in_library().then(|| answer(call))
-}
-
 /// Makes one call on the stretch, in this process.
 #[cfg(all(linked, not(far)))]
-fn answer(call: &PlanCall) -> PlanReply {
+pub(super) fn answer(call: &PlanCall) -> PlanReply {
     let mut lent = call.lent();
     let (front, back) = lent.split_at_mut(call.bytes_at().start);
     let out = &mut front[call.out_at()];

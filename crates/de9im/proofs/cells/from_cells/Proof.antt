@@ -1,3 +1,4 @@
+-- Nine numbers, each read by `dimension`, in their places: each cell by its callee. Assumes nothing.
 use borrow.Author.Needs.{needs}
 use Rattle.de9im.proofs.cells.from_cells.Statement.{statement}
 use Rattle.de9im.proofs.cells.from_cells.Tie as tie

@@ -1,3 +1,4 @@
+-- Each code by computing; any other number is none of the four. Assumes nothing.
 use mathlib.Core.Path.{sym}
 use native.Mathlib.Omega.{arith}
 use Rattle.de9im.proofs.LawsPosition.{code-large}

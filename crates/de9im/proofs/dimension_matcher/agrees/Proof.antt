@@ -1,3 +1,4 @@
+-- Each meaning by its own clause of `agreeOf`, with the number of the cell. Assumes nothing.
 use borrow.Author.Needs.{needs}
 use Rattle.de9im.proofs.dimension_matcher.agrees.Statement.{statement}
 use Rattle.de9im.proofs.dimension_matcher.agrees.Tie as tie

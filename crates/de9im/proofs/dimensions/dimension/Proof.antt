@@ -1,3 +1,4 @@
+-- Each of 0, 1, 2 by computing; any other number is above them. Assumes nothing.
 use borrow.Author.Needs.{needs}
 use mathlib.Core.Path.{sym}
 use native.Mathlib.Omega.{arith}

@@ -1,3 +1,4 @@
+-- The choice by the two numbers is the choice that `larger` makes. Assumes nothing.
 use borrow.Author.Needs.{needs}
 use Rattle.de9im.proofs.dimensions.max.Statement.{statement}
 use Rattle.de9im.proofs.dimensions.max.Tie as tie

@@ -1,3 +1,4 @@
+-- A known position has a row below 3, so the cell is there. Assumes nothing.
 use borrow.Author.Needs.{needs}
 use Rattle.de9im.proofs.LawsPosition.{known-row}
 use Rattle.de9im.proofs.intersection_matrix.get.Statement.{statement}

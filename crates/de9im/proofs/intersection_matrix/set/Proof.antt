@@ -1,3 +1,4 @@
+-- A none has row 3: then the matrix stays, else the cell in that row and column is put. Assumes nothing.
 use borrow.Author.Needs.{needs}
 use mathlib.Core.Path.{sym, _∙_}
 use native.Mathlib.Omega.{arith}

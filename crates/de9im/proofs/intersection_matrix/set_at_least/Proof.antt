@@ -1,3 +1,4 @@
+-- As `set`, with the larger of the old cell and the given one. Assumes nothing.
 use borrow.Author.Needs.{needs}
 use mathlib.Core.Path.{sym, _∙_}
 use native.Mathlib.Omega.{arith}

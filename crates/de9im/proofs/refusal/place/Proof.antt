@@ -1,3 +1,4 @@
+-- One clause of `placeOf` for each case. Assumes nothing.
 use borrow.Author.Needs.{needs}
 use Rattle.de9im.proofs.refusal.place.Statement.{statement}
 use Rattle.de9im.proofs.refusal.place.Tie as tie

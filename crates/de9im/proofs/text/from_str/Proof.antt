@@ -1,3 +1,4 @@
+-- The loop keeps: no bad byte so far, and the numbers written are those of the letters passed. Assumes nothing.
 use borrow.Author.Needs.{needs}
 use native.Mathlib.Omega.{arith}
 use Prim.Native.Nat.{_-_, _≤_}

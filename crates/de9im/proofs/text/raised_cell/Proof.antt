@@ -1,3 +1,4 @@
+-- A number is read up to 3; the larger of two by the test that was made. Assumes nothing.
 use borrow.Author.Needs.{needs}
 use Rattle.de9im.proofs.LawsDimension.{number-back}
 use native.Mathlib.Omega.{arith}

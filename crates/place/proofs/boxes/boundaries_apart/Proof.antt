@@ -2,14 +2,6 @@ use borrow.Author.Needs.{needs}
 use Rattle.place.proofs.boxes.boundaries_apart.Statement.{statement}
 use Rattle.place.proofs.boxes.boundaries_apart.Tie as tie
 
-returns : tie.Need-returns
-returns c = cc
-
 pub boundaries-apart-spec : {M : Type 1} → statement M
 boundaries-apart-spec =
-    tie.close
-    (tie.spec
-    (λ c κs. search needs)
-    (λ c κs. search needs)
-    (λ c κs. search needs)
-    returns)
+    tie.close (tie.spec (λ c κs. search needs) (λ c κs. search needs) (λ c κs. search needs) (λ c. cc))

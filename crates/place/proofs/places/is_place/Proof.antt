@@ -1,3 +1,4 @@
+-- A place is a point or a box: each arm is the definition at that one.
 use borrow.Author.Needs.{needs}
 use Rattle.place.specs.Places.{isPlace}
 use Rattle.place.proofs.places.is_place.Statement.{statement}

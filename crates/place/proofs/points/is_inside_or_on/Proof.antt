@@ -1,3 +1,4 @@
+-- Straight down: each call is its definition.
 use borrow.Author.Needs.{needs}
 use Rattle.place.proofs.points.is_inside_or_on.Statement.{statement}
 use Rattle.place.proofs.points.is_inside_or_on.Tie as tie

@@ -1,6 +1,7 @@
+-- Three cells are picked by two tests, and the three matrices that document 01 prints differ in just these.
 use borrow.Author.Needs.{needs}
-use Rattle.place.specs.Order.{floats}
-use Rattle.place.specs.Shapes.{spotOf, areaOf}
+use Rattle.place.specs.Comparing.{floats}
+use Rattle.place.specs.Shapes.{coordOf, areaOf}
 use Rattle.place.specs.Ranges.{inside, insideOrOn}
 use Rattle.place.specs.Rules.{pointBox}
 use Rattle.place.proofs.LawsRules.{point-cells}
@@ -18,7 +19,7 @@ returns c =
       c .before .before .before .is-inside-or-on .ensures,
       c .before .before .before .before .is-inside .ensures,
     )
-    (point-cells (inside floats (spotOf (s .p)) (areaOf (s .b))) (insideOrOn floats (spotOf (s .p)) (areaOf (s .b))))
+    (point-cells (inside floats (coordOf (s .p)) (areaOf (s .b))) (insideOrOn floats (coordOf (s .p)) (areaOf (s .b))))
 
 pub point-box-spec : {M : Type 1} → statement M
 point-box-spec =

@@ -1,6 +1,7 @@
+-- Three cells are picked by one test, and the two matrices that document 01 prints differ in just these.
 use borrow.Author.Needs.{needs}
-use Rattle.place.specs.Order.{floats}
-use Rattle.place.specs.Shapes.{spotOf}
+use Rattle.place.specs.Comparing.{floats}
+use Rattle.place.specs.Shapes.{coordOf}
 use Rattle.place.specs.Ranges.{same}
 use Rattle.place.specs.Rules.{pointPoint}
 use Rattle.place.proofs.LawsRules.{points-cells}
@@ -17,7 +18,7 @@ returns c =
       c .before .before .pick .ensures,
       c .before .before .before .is-same .ensures,
     )
-    (points-cells (same floats (spotOf (s .p)) (spotOf (s .q))))
+    (points-cells (same floats (coordOf (s .p)) (coordOf (s .q))))
 
 pub point-point-spec : {M : Type 1} → statement M
 point-point-spec =

@@ -1,3 +1,4 @@
+-- Each of the four pairs is its rule.
 use borrow.Author.Needs.{needs}
 use Rattle.place.specs.Rules.{related}
 use Rattle.place.proofs.relate.matrix.Statement.{statement}

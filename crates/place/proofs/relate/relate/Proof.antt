@@ -1,3 +1,4 @@
+-- Accepted where both are places, and else refused: the two cases of the definition.
 use borrow.Author.Needs.{needs}
 use Rattle.place.specs.Relate.{relateOf}
 use Rattle.place.proofs.relate.relate.Statement.{statement}

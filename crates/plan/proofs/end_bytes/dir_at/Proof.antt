@@ -1,3 +1,4 @@
+-- Each part is four bytes in two's complement, which 32 bits hold.
 use borrow.Author.Needs.{needs}
 use mir.Syntax.{w32}
 use mir.Val.{SFits}
@@ -15,9 +16,9 @@ returns c =
       toZ-ofZ f,
       toZ-ofZ g,
       c .signed-of2 .ensures,
-      c .before .word-at2 .ensures .0,
+      c .before .four-bytes-at2 .ensures .0,
       c .before .before .signed-of .ensures,
-      c .before .before .before .word-at .ensures .0,
+      c .before .before .before .four-bytes-at .ensures .0,
     )
 
 pub dir-at-spec : {M : Type 1} → statement M

@@ -1,5 +1,6 @@
+-- The branch goes by the direction's test, as the definition does.
 use borrow.Author.Needs.{needs}
-use Rattle.plan.specs.Reading.{endFault}
+use Rattle.plan.specs.Inner.Reading.{endFault}
 use Rattle.plan.proofs.end_bytes.end_fault.Statement.{statement}
 use Rattle.plan.proofs.end_bytes.end_fault.Tie as tie
 

@@ -1,5 +1,6 @@
+-- The direction and the label, as the definition has them.
 use borrow.Author.Needs.{needs}
-use Rattle.plan.specs.Reading.{endRead}
+use Rattle.plan.specs.Inner.Reading.{endRead}
 use Rattle.plan.proofs.end_bytes.end_read.Statement.{statement}
 use Rattle.plan.proofs.end_bytes.end_read.Tie as tie
 

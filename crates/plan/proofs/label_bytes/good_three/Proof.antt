@@ -1,3 +1,4 @@
+-- Each test is a byte's, as the definition has it.
 use borrow.Author.Needs.{needs}
 use Rattle.plan.proofs.label_bytes.good_three.Statement.{statement}
 use Rattle.plan.proofs.label_bytes.good_three.Tie as tie

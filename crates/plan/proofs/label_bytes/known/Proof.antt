@@ -1,3 +1,4 @@
+-- A branch for each code; a byte that is none of the first three is above 2.
 use borrow.Author.Needs.{needs}
 use native.Mathlib.Omega.{arith}
 use Rattle.plan.proofs.LawsReading.{above-two}

@@ -1,6 +1,7 @@
+-- The branches go by the tests of the definition, in its order.
 use borrow.Author.Needs.{needs}
 use borrow.Author.Tests.{lt-ltb, le-ltb}
-use Rattle.plan.specs.Reading.{labelFault}
+use Rattle.plan.specs.Inner.Reading.{labelFault}
 use Rattle.plan.proofs.label_bytes.label_fault.Statement.{statement}
 use Rattle.plan.proofs.label_bytes.label_fault.Tie as tie
 

@@ -1,5 +1,6 @@
+-- The kind's byte and two halves, as the definition has them.
 use borrow.Author.Needs.{needs}
-use Rattle.plan.specs.Reading.{labelRead}
+use Rattle.plan.specs.Inner.Reading.{labelRead}
 use Rattle.plan.proofs.label_bytes.label_read.Statement.{statement}
 use Rattle.plan.proofs.label_bytes.label_read.Tie as tie
 

@@ -1,3 +1,4 @@
+-- Each position is its byte's, as the definition has it.
 use borrow.Author.Needs.{needs}
 use Rattle.plan.proofs.label_bytes.three_read.Statement.{statement}
 use Rattle.plan.proofs.label_bytes.three_read.Tie as tie

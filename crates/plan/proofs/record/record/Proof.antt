@@ -1,3 +1,4 @@
+-- Each branch is one step of `saidOf`, and a law of the record order says what the record is there.
 use borrow.Author.Needs.{needs}
 use native.Mathlib.Omega.{arith}
 use mathlib.Core.Path.{sym, _∙_}
@@ -6,34 +7,47 @@ use Rattle.plan.proofs.record.record.Statement.{statement}
 use Rattle.plan.proofs.record.record.Tie as tie
 
 returns : tie.Need-returns
-returns c = let s = c .before .before .before .args in c .refused .ensures ∙ sym (no-field (s .cells) (s .s .now) (omega arith))
+returns c =
+    let s = c .before .before .before .args in
+    c .refused .ensures ∙ sym (no-field (s .cells) (s .s .now) (omega arith))
 
 returns-2 : tie.Need-returns-2
-returns-2 c = let s = c .before .before .before .before .before .before .before .args in c .refused2 .ensures ∙ sym
-    (no-body (s .cells) (s .s .now) (omega arith) (omega arith))
+returns-2 c =
+    let s = c .before .before .before .before .before .before .before .args in
+    c .refused2 .ensures ∙ sym (no-body (s .cells) (s .s .now) (omega arith) (omega arith))
 
 returns-3 : tie.Need-returns-3
-returns-3 c = let s = c .before .before .before .before .before .before .before .before .args in c .refused3 .ensures ∙ sym
-    (too-short (s .cells) (s .s .now) (omega arith) (omega arith) (omega arith))
+returns-3 c =
+    let s = c .before .before .before .before .before .before .before .before .args in
+    c .refused3 .ensures ∙ sym (too-short (s .cells) (s .s .now) (omega arith) (omega arith) (omega arith))
 
 returns-4 : tie.Need-returns-4
-returns-4 c = let s = c .before .before .before .before .before .before .before .before .before .before .args in
+returns-4 c =
+    let s = c .before .before .before .before .before .before .before .before .before .before .args in
     c .refused4 .ensures ∙ sym (other-version (s .cells) (s .s .now) (omega arith) (omega arith) (omega arith) (c .before .if4 .taken))
 
 returns-5 : tie.Need-returns-5
-returns-5 c = let s = c .before .before .before .before .before .before .before .before .before .before .before .before .args in
-    c .node-record .ensures ∙ sym (a-node (s .cells) (s .s .now) (omega arith) (omega arith) (omega arith)
-    (c .before .before .before .if4 .left) (c .before .if5 .taken))
+returns-5 c =
+    let v = c .before .before .before in
+    let s = v .before .before .before .before .before .before .before .before .before .args in
+    c .node-record .ensures ∙
+    sym (a-node (s .cells) (s .s .now) (omega arith) (omega arith) (omega arith) (v .if4 .left) (c .before .if5 .taken))
 
 returns-6 : tie.Need-returns-6
-returns-6 c = let s = c .before .before .before .before .before .before .before .before .before .before .before .before .before .args in
-    c .edge-record .ensures ∙ sym (an-edge (s .cells) (s .s .now) (omega arith) (omega arith) (omega arith)
-    (c .before .before .before .before .if4 .left) (c .before .before .if5 .left) (c .before .if6 .taken))
+returns-6 c =
+    let k = c .before .before in
+    let v = k .before .before in
+    let s = v .before .before .before .before .before .before .before .before .before .args in
+    c .edge-record .ensures ∙
+    sym (an-edge (s .cells) (s .s .now) (omega arith) (omega arith) (omega arith) (v .if4 .left) (k .if5 .left) (c .before .if6 .taken))
 
 returns-7 : tie.Need-returns-7
-returns-7 c = let s = c .before .before .before .before .before .before .before .before .before .before .before .before .before .args in
-    c .refused5 .ensures ∙ sym (other-kind (s .cells) (s .s .now) (omega arith) (omega arith) (omega arith)
-    (c .before .before .before .before .if4 .left) (c .before .before .if5 .left) (c .before .if6 .left))
+returns-7 c =
+    let k = c .before .before in
+    let v = k .before .before in
+    let s = v .before .before .before .before .before .before .before .before .before .args in
+    c .refused5 .ensures ∙
+    sym (other-kind (s .cells) (s .s .now) (omega arith) (omega arith) (omega arith) (v .if4 .left) (k .if5 .left) (c .before .if6 .left))
 
 pub record-spec : {M : Type 1} → statement M
 record-spec =

@@ -1,3 +1,4 @@
+-- Two bytes make 10 only as 00 0A.
 use borrow.Author.Needs.{needs}
 use native.Mathlib.Omega.{arith}
 use Rattle.plan.proofs.LawsReport.{ten-bytes}

@@ -1,3 +1,4 @@
+-- What the text's reader answered is opened: its numbers, or its refusal handed on.
 use borrow.Author.Needs.{needs}
 use mathlib.Core.Path.{refl}
 use Rattle.plan.specs.Report.{lettersOf}
@@ -6,11 +7,11 @@ use Rattle.plan.proofs.report.letters.Tie as tie
 
 returns : tie.Need-returns
 unfolding lettersOf
-returns c = rw (← c .before .before .before .from-str .ensures, c .enum-told .given .1) refl
+returns c = rw (c .none-used .ensures, ← c .before .before .before .from-str .ensures, c .before .enum-told2 .given .1) refl
 
 returns-2 : tie.Need-returns-2
 unfolding lettersOf
-returns-2 c = rw (← c .before .before .before .before .before .from-str .ensures, c .before .before .parsed .given .1) (c .refused .ensures)
+returns-2 c = rw (← c .before .before .before .from-str .ensures, c .before .enum-told .given .1) refl
 
 pub letters-spec : {M : Type 1} → statement M
 letters-spec =

@@ -1,3 +1,4 @@
+-- The twelve bytes are copied over the first twelve of what is lent.
 use borrow.Author.Needs.{needs}
 use mathlib.Core.Path.{refl}
 use Rattle.plan.specs.Report.{reportBytes}

@@ -1,3 +1,4 @@
+-- The header's three bytes, and the text of the matrix letter by letter.
 use borrow.Author.Needs.{needs}
 use Rattle.plan.specs.Report.{reportBytes}
 use Rattle.plan.proofs.report.report.Statement.{statement}

@@ -1,3 +1,4 @@
+-- Both tests fail exactly where there is room, and the part lent on is all of the buffer from the offset.
 use borrow.Author.Needs.{needs}
 use native.Mathlib.Omega.{arith}
 use denote.Ref.{now}

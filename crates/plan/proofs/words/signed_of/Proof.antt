@@ -1,3 +1,4 @@
+-- Below 2^31 the number is itself; from there on it is 2^32 too large, and the difference fits.
 use borrow.Author.Needs.{needs}
 use borrow.Author.Tests.{lt-ltb, le-ltb}
 use mir.Syntax.{w32}

@@ -1,3 +1,4 @@
+-- The matrix of the numbers, raised by the core, and its numbers again. Assumes nothing.
 use borrow.Author.Needs.{needs}
 use Rattle.running.specs.Changes.{atLeastIn}
 use Rattle.running.proofs.by_value.with_at_least.Statement.{statement}

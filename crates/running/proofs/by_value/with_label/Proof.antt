@@ -1,3 +1,4 @@
+-- The matrix of the numbers, the label poured by the core, and its numbers again. Assumes nothing.
 use borrow.Author.Needs.{needs}
 use Rattle.running.specs.Changes.{labelIn}
 use Rattle.running.proofs.by_value.with_label.Statement.{statement}

@@ -1,3 +1,4 @@
+-- The record's own answer on the numbers as they stand, and the numbers beside it. Assumes nothing.
 use borrow.Author.Needs.{needs}
 use Rattle.running.specs.Changes.{recordIn}
 use Rattle.running.proofs.by_value.with_record.Statement.{statement}

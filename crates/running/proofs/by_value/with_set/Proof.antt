@@ -1,3 +1,4 @@
+-- The matrix of the numbers, set by the core, and its numbers again. Assumes nothing.
 use borrow.Author.Needs.{needs}
 use Rattle.running.specs.Changes.{setIn}
 use Rattle.running.proofs.by_value.with_set.Statement.{statement}

@@ -1,3 +1,4 @@
+-- The numbers of the matrix, field by field. Assumes nothing.
 use borrow.Author.Needs.{needs}
 use Rattle.running.proofs.kept.from_matrix.Statement.{statement}
 use Rattle.running.proofs.kept.from_matrix.Tie as tie

@@ -1,3 +1,4 @@
+-- The numbers of the start matrix. Assumes nothing.
 use borrow.Author.Needs.{needs}
 use Rattle.running.proofs.kept.start.Statement.{statement}
 use Rattle.running.proofs.kept.start.Tie as tie

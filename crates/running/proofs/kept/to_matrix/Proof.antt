@@ -1,3 +1,4 @@
+-- The matrix that the nine numbers stand for. Assumes nothing.
 use borrow.Author.Needs.{needs}
 use Rattle.running.proofs.kept.to_matrix.Statement.{statement}
 use Rattle.running.proofs.kept.to_matrix.Tie as tie

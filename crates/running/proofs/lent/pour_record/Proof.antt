@@ -44,9 +44,9 @@ use denote.Exit.{yes}
 use Rattle.running.specs.Changes.{recordIn}
 use Rattle.running.specs.declared.kept.Running.{Running}
 use Rattle.running.specs.declared.«by_value».Recorded.{Recorded}
-use Rattle.plan.specs.declared.Answer.{Answer}
-use Rattle.plan.proofs.Answer as S
-use Rattle.plan.proofs.Answer.Laws as S′
+use Rattle.de9im.specs.declared.answer.Answer.{Answer}
+use Rattle.de9im.proofs.answer.Answer as S
+use Rattle.de9im.proofs.answer.Answer.Laws as S′
 use Rattle.running.proofs.kept.Running as T
 use Rattle.running.proofs.kept.Running.Laws as T′
 use Rattle.running.proofs.by_value.Recorded as O

@@ -2,14 +2,9 @@ use borrow.Author.Needs.{needs}
 use Rattle.star.proofs.edge_end.bad_dir.Statement.{statement}
 use Rattle.star.proofs.edge_end.bad_dir.Tie as tie
 
-returns : tie.Need-returns
-returns c = simp (c .far-y .ensures, c .before .far-x .ensures, c .before .before .zero .ensures)
-
 pub bad-dir-spec : {M : Type 1} → statement M
 bad-dir-spec =
     tie.close
     (tie.spec
-    (λ c κs. search needs)
-    (λ c κs. search needs)
-    (λ c κs. search needs)
-    returns)
+    (λ c κs. search needs) (λ c κs. search needs) (λ c κs. search needs)
+    (λ c. simp (c .far-y .ensures, c .before .far-x .ensures, c .before .before .zero .ensures)))

@@ -2,13 +2,9 @@ use borrow.Author.Needs.{needs}
 use Rattle.star.proofs.edge_end.by_quadrant.Statement.{statement}
 use Rattle.star.proofs.edge_end.by_quadrant.Tie as tie
 
-returns : tie.Need-returns
-returns c = simp (c .pick-order2 .ensures, c .before .«pick-order» .ensures)
-
 pub by-quadrant-spec : {M : Type 1} → statement M
 by-quadrant-spec =
     tie.close
     (tie.spec
-    (λ c κs. search needs)
-    (λ c κs. search needs)
-    returns)
+    (λ c κs. search needs) (λ c κs. search needs)
+    (λ c. simp (c .pick-order2 .ensures, c .before .«pick-order» .ensures)))

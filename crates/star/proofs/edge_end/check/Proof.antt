@@ -1,3 +1,4 @@
+-- The loop keeps that the first fault from the start is the first fault from i on.
 use borrow.Author.Needs.{needs}
 use native.Mathlib.Omega.{arith}
 use Prim.Native.Nat.{_≤_, _-_}

@@ -1,3 +1,4 @@
+-- Straight down: each call is its definition.
 use Rattle.star.specs.Direction.{orderOf}
 use borrow.Author.Needs.{needs}
 use Rattle.star.proofs.edge_end.compare.Statement.{statement}

@@ -1,3 +1,4 @@
+-- A part of 32 bits fits 64, and so does the product of two.
 use borrow.Author.Needs.{needs}
 use mir.Syntax.{w32}
 use mir.Val.{SFits}

@@ -1,3 +1,4 @@
+-- Straight down: the signs of the two parts, each read back from its bits.
 use borrow.Author.Needs.{needs}
 use mathlib.Core.Path.{refl, _∙_}
 use mir.Syntax.{w32}

@@ -1,3 +1,4 @@
+-- The sign of a difference is the comparison of its two halves, and the halves fit.
 use lib.IntN.{_*ℤ_, *ℤ-comm}
 use Rattle.star.proofs.LawsSigned.{sign-above, sign-below}
 use mir.Syntax.{w64}

@@ -1,3 +1,4 @@
+-- A signed number is 0 exactly where its bits are.
 use borrow.Author.Needs.{needs}
 use mathlib.Core.Path.{refl}
 use mir.Syntax.{w32}

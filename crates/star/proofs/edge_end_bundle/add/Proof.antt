@@ -1,3 +1,4 @@
+-- Straight down: each call is its definition; a small tally has room for one end more.
 use borrow.Author.Needs.{needs}
 use Rattle.star.proofs.edge_end_bundle.add.Statement.{statement}
 use Rattle.star.proofs.edge_end_bundle.add.Tie as tie

@@ -1,3 +1,4 @@
+-- What the check answers decides: refused, no label is read; fine, there are at most 32 ends, so they are joined.
 use borrow.Author.Needs.{needs}
 use mathlib.Core.Path.{_≡_, refl, sym, _∙_}
 use lib.ListN.{length}
@@ -6,19 +7,21 @@ use Rattle.star.proofs.LawsEnds.{checked-sound}
 use Rattle.star.proofs.edge_end_bundle.bundle.Statement.{statement}
 use Rattle.star.proofs.edge_end_bundle.bundle.Tie as tie
 
+returns : tie.Need-returns
+unfolding bundledOf
+returns c =
+    let told = c .before .before .enum-told2 .given .1 in
+    c .bundled-as .ensures ∙ rw (told, sym (c .before .before .before .before .check .ensures) ∙ told) refl
+
 join-requires : tie.Need-join-requires
 join-requires c κs =
     let s = c .before .before .before .args in
     let len : length (s .ends) ≡ 32 = search needs in
     checked-sound (s .ends) (s .count) len (sym (c .before .before .check .ensures) ∙ c .enum-told .given .1) .few
 
-returns : tie.Need-returns
-unfolding bundledOf
-returns c = rw (c .join .ensures, sym (c .before .before .before .check .ensures) ∙ c .before .enum-told .given .1) refl
-
 returns-2 : tie.Need-returns-2
 unfolding bundledOf
-returns-2 c = rw (sym (c .before .before .before .check .ensures) ∙ c .before .c .given .1) refl
+returns-2 c = rw (c .join .ensures, sym (c .before .before .before .check .ensures) ∙ c .before .enum-told .given .1) refl
 
 pub bundle-spec : {M : Type 1} → statement M
 bundle-spec =
@@ -26,7 +29,9 @@ bundle-spec =
     (tie.spec
     (λ c κs. search needs)
     (λ c. search needs)
-    join-requires
     (λ c. search needs)
+    (λ c κs. search needs)
+    (λ c κs. search needs)
     returns
+    join-requires
     returns-2)

@@ -1,10 +1,11 @@
+-- The loop keeps the counts of the first i ends, and the label read from the counts is the joined one.
 use borrow.Author.Needs.{needs}
 use native.Mathlib.Omega.{arith}
 use mathlib.Core.Path.{_≡_, sym, _∙_}
 use Prim.Native.Nat.{_≤_, _-_}
 use lib.ListN.{length, take}
 use lib.Seq.{length-take-le}
-use Rattle.star.specs.Tally.{tallyOf}
+use Rattle.star.specs.Inner.Tally.{tallyOf}
 use Rattle.star.specs.Ends.{noEnd}
 use Rattle.star.proofs.LawsLists.{take-more}
 use Rattle.star.proofs.LawsTally.{tally-none, tally-snoc, tally-small, label-back}

@@ -1,11 +1,12 @@
+-- Straight down: each half is read from its number.
 use borrow.Author.Needs.{needs}
-use Rattle.star.specs.Tally.{labelOf}
+use Rattle.star.specs.Inner.Tally.{labelOf}
 use Rattle.star.proofs.edge_end_bundle.label_of.Statement.{statement}
 use Rattle.star.proofs.edge_end_bundle.label_of.Tie as tie
 
 returns : tie.Need-returns
 unfolding labelOf
-returns c = simp (c .before .half-of2 .ensures, c .before .before .half-of .ensures)
+returns c = simp (c .before .sides-in2 .ensures, c .before .before .sides-in .ensures)
 
 pub label-of-spec : {M : Type 1} → statement M
 label-of-spec =

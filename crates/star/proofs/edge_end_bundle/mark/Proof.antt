@@ -1,3 +1,4 @@
+-- Straight down: each call is its definition, and the bounds of the marks keep the sum below the stated one.
 use borrow.Author.Needs.{needs}
 use native.Mathlib.Omega.{arith}
 use mathlib.Core.Path.{refl}

@@ -1,19 +1,20 @@
+-- The loop keeps the first i labels, completed, with blanks behind them, and what is current; one label more is one step of each.
 use borrow.Author.Needs.{needs}
 use native.Mathlib.Omega.{arith}
 use Prim.Native.Nat.{_≤_, _<_, _-_}
 use mathlib.Core.Path.{_≡_, refl, sym, _∙_}
 use lib.ListN.{length}
 use Rattle.star.specs.Label.{blank, padded}
-use Rattle.star.specs.Gather.{labelsAt}
-use Rattle.star.specs.Walking.{scan, after, completeLabel, completeCurrent, completeWalk}
+use Rattle.star.specs.Inner.Gather.{placedLabels}
+use Rattle.star.specs.Inner.Walking.{scan, after, completeLabel, completeCurrent, completeWalk}
 use Rattle.star.proofs.LawsGather.{labels-more, labels-length}
 use Rattle.star.proofs.LawsLists.{pad-step, scan-snoc, after-snoc, scan-length}
 use Rattle.star.proofs.edge_end_bundle_star.complete.Statement.{statement}
 use Rattle.star.proofs.edge_end_bundle_star.complete.Tie as tie
 
 abbrev Inv-loop : tie.InvT-loop
-Inv-loop order areas a b n out₀ c₀ i₀ out c i = (i ≤ n) × (out ≡ padded (completeWalk c₀ (labelsAt order areas a b i))) ×
-    (c ≡ after completeCurrent c₀ (labelsAt order areas a b i))
+Inv-loop order areas a b n out₀ c₀ i₀ out c i = (i ≤ n) × (out ≡ padded (completeWalk c₀ (placedLabels order areas a b i))) ×
+    (c ≡ after completeCurrent c₀ (placedLabels order areas a b i))
 
 abbrev μ-loop : tie.MeasureT-loop
 μ-loop order areas a b n out₀ c₀ i₀ out c i = n - i
@@ -36,7 +37,7 @@ loop-again c =
     let t = c .before .before .before .loop-test .taken in
     let few : l .i < length (s .order .now) = omega (arith, t, b .pre .whole, b .pre .few) in
     let more = labels-more (s .order .now) (s .areas .now) (s .a .now) (s .b .now) (l .i) few in
-    let xs = labelsAt (s .order .now) (s .areas .now) (s .a .now) (s .b .now) (l .i) in
+    let xs = placedLabels (s .order .now) (s .areas .now) (s .a .now) (s .b .now) (l .i) in
     let size : length (completeWalk (s .start) xs) ≡ l .i = scan-length completeLabel completeCurrent (s .start) xs ∙ labels-length
     (s .order .now) (s .areas .now) (s .a .now) (s .b .now) (l .i) (omega (arith, few)) in (
       omega arith,

@@ -1,5 +1,6 @@
+-- Straight down: each geometry by itself.
 use borrow.Author.Needs.{needs}
-use Rattle.star.specs.Walking.{completeLabel}
+use Rattle.star.specs.Inner.Walking.{completeLabel}
 use Rattle.star.proofs.edge_end_bundle_star.complete_label.Statement.{statement}
 use Rattle.star.proofs.edge_end_bundle_star.complete_label.Tie as tie
 

@@ -1,5 +1,6 @@
+-- Straight down: each geometry by itself.
 use borrow.Author.Needs.{needs}
-use Rattle.star.specs.Walking.{completeCurrent}
+use Rattle.star.specs.Inner.Walking.{completeCurrent}
 use Rattle.star.proofs.edge_end_bundle_star.next_label.Statement.{statement}
 use Rattle.star.proofs.edge_end_bundle_star.next_label.Tie as tie
 

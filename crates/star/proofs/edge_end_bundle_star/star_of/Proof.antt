@@ -1,3 +1,4 @@
+-- What was gathered is the joined star, the look tells 9, and the one walk completes as document 01 does.
 use borrow.Author.Needs.{needs}
 use native.Mathlib.Omega.{arith}
 use Prim.Native.Nat.{_<_}
@@ -7,7 +8,7 @@ use lib.ListN.{length, take, length-take}
 use Rattle.star.specs.Calls.{completedStar}
 use Rattle.star.specs.Completing.{missingLeft}
 use Rattle.star.specs.Star.{joinedOf}
-use Rattle.star.specs.Walking.{viewOf}
+use Rattle.star.specs.Inner.Walking.{viewOf}
 use Rattle.star.proofs.LawsComplete.{completed-walk}
 use Rattle.star.proofs.LawsFew.{completed-length}
 use Rattle.star.proofs.LawsGather.{gathered-labels, gathered-count}
@@ -27,7 +28,7 @@ returns c =
     let e : v .result ≡ viewOf (joinedOf es) = v .ensures ∙ ap viewOf labels in
     let m : missingLeft (joinedOf es) ≡ true = sym (view-missing (joinedOf es) (v .result) e) ∙
     sym (c .before .before .missing .ensures) ∙ c .before .if1 .taken in
-    c .refused .ensures ∙ rw m refl
+    c .unlabeled .ensures ∙ rw m refl
 
 returns-2 : tie.Need-returns-2
 unfolding completedStar

@@ -1,3 +1,4 @@
+-- Straight down: each geometry by itself.
 use borrow.Author.Needs.{needs}
 use Rattle.star.proofs.edge_end_bundle_star.starts.Statement.{statement}
 use Rattle.star.proofs.edge_end_bundle_star.starts.Tie as tie

@@ -1,7 +1,8 @@
+-- A line label stops after its on; an area label goes on with left and right: the two cases of the definition.
 use borrow.Author.Needs.{needs}
 use borrow.Author.Tests.{not-true, not-false}
 use mathlib.Core.Path.{refl, _∙_}
-use Rattle.star.specs.Grid.{gridLabel}
+use Rattle.star.specs.Inner.Grid.{gridLabel}
 use Rattle.star.proofs.grid.pour_into.Statement.{statement}
 use Rattle.star.proofs.grid.pour_into.Tie as tie
 

@@ -1,19 +1,20 @@
+-- The loop keeps what the first i labels show, and the last of them; one label more is `looked-snoc` and `last-snoc`.
 use borrow.Author.Needs.{needs}
 use native.Mathlib.Omega.{arith}
 use Prim.Native.Nat.{_≤_, _-_}
 use mathlib.Core.Path.{_≡_, refl, sym}
 use lib.ListN.{getD}
 use Rattle.star.specs.Completing.{lastOf}
-use Rattle.star.specs.Gather.{labelsAt, labelAt}
-use Rattle.star.specs.Walking.{lookedOf}
+use Rattle.star.specs.Inner.Gather.{placedLabels, placedLabel}
+use Rattle.star.specs.Inner.Walking.{lookedOf}
 use Rattle.star.proofs.LawsGather.{labels-more}
 use Rattle.star.proofs.LawsWalk.{looked-snoc, last-snoc}
 use Rattle.star.proofs.look.look.Statement.{statement}
 use Rattle.star.proofs.look.look.Tie as tie
 
 abbrev Inv-loop : tie.InvT-loop
-Inv-loop order areas a b n w₀ last₀ i₀ w last i = (i ≤ n) × (w ≡ lookedOf (labelsAt order areas a b i)) × (last ≡ lastOf
-    (labelsAt order areas a b i))
+Inv-loop order areas a b n w₀ last₀ i₀ w last i = (i ≤ n) × (w ≡ lookedOf (placedLabels order areas a b i)) × (last ≡ lastOf
+    (placedLabels order areas a b i))
 
 abbrev μ-loop : tie.MeasureT-loop
 μ-loop order areas a b n w₀ last₀ i₀ w last i = n - i
@@ -34,8 +35,8 @@ loop-again c =
     let s = b .args in
     let t = c .before .before .loop-test .taken in
     let more = labels-more (s .order .now) (s .areas .now) (s .a .now) (s .b .now) (l .i) (omega (arith, t, b .pre .whole, b .pre .few)) in
-    let xs = labelsAt (s .order .now) (s .areas .now) (s .a .now) (s .b .now) (l .i) in
-    let x = labelAt (s .areas .now) (s .a .now) (s .b .now) (getD (s .order .now) (l .i) 0) in (
+    let xs = placedLabels (s .order .now) (s .areas .now) (s .a .now) (s .b .now) (l .i) in
+    let x = placedLabel (s .areas .now) (s .a .now) (s .b .now) (getD (s .order .now) (l .i) 0) in (
       omega arith,
       rw (c .look-label .ensures, c .before .bundle-label .ensures, l .inv .1, more) (sym (looked-snoc xs x)),
       rw (c .before .bundle-label .ensures, more) (sym (last-snoc xs x)),

@@ -3,11 +3,5 @@ use Rattle.star.proofs.LawsWalk.{looked-none}
 use Rattle.star.proofs.look.nothing.Statement.{statement}
 use Rattle.star.proofs.look.nothing.Tie as tie
 
-returns : tie.Need-returns
-returns c = sym looked-none
-
 pub nothing-spec : {M : Type 1} → statement M
-nothing-spec =
-    tie.close
-    (tie.spec
-    returns)
+nothing-spec = tie.close (tie.spec (λ c. sym looked-none))

@@ -1,3 +1,4 @@
+-- The grid holds the matrix, and pouring a label into it is pouring it into the matrix.
 use borrow.Author.Needs.{needs}
 use mathlib.Core.Path.{_∙_}
 use Rattle.star.proofs.LawsGrid.{grid-label}

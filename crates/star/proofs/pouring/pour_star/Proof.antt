@@ -1,3 +1,4 @@
+-- What was gathered is the joined star, the look tells 9, the one walk completes as document 01 does, and the grid holds the matrix.
 use borrow.Author.Needs.{needs}
 use native.Mathlib.Omega.{arith}
 use Prim.Native.Nat.{_<_}
@@ -7,7 +8,7 @@ use lib.ListN.{length, take, length-take}
 use Rattle.star.specs.Calls.{completedStar, pouredStar}
 use Rattle.star.specs.Completing.{missingLeft, completedOf}
 use Rattle.star.specs.Star.{joinedOf}
-use Rattle.star.specs.Walking.{viewOf}
+use Rattle.star.specs.Inner.Walking.{viewOf}
 use Rattle.star.proofs.LawsComplete.{completed-walk}
 use Rattle.star.proofs.LawsGather.{gathered-labels}
 use Rattle.star.proofs.LawsGrid.{grid-star}
@@ -32,9 +33,9 @@ returns c =
 returns-2 : tie.Need-returns-2
 unfolding pouredStar completedStar
 returns-2 c =
-    let g = c .before .before .before .before .before .before .before .before .before .before .before .before .before .before .before .before .before .before in
-    let s = g .before .before .before .before .before in
     let k = c .before .before .before .before .before .before .before .before .before .before in
+    let g = k .before .before .before .before .before .before .before .before in
+    let s = g .before .before .before .before .before in
     let v = k .before .before .before .look in
     let es = take (s .args .n) (s .args .ends) in
     let small : length es < 1024 = omega (arith, s .pre .few, length-take (s .args .n) (s .args .ends)) in

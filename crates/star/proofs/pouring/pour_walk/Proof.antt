@@ -1,10 +1,11 @@
+-- The loop keeps the grid poured with the first i labels, completed, and what is current after them; one label more is one step of each.
 use borrow.Author.Needs.{needs}
 use native.Mathlib.Omega.{arith}
 use Prim.Native.Nat.{_≤_, _-_}
 use mathlib.Core.Path.{_≡_, refl, sym, _∙_}
-use Rattle.star.specs.Gather.{labelsAt}
-use Rattle.star.specs.Grid.{pourGrid}
-use Rattle.star.specs.Walking.{scan, after, completeLabel, completeCurrent, completeWalk}
+use Rattle.star.specs.Inner.Gather.{placedLabels}
+use Rattle.star.specs.Inner.Grid.{pourGrid}
+use Rattle.star.specs.Inner.Walking.{scan, after, completeLabel, completeCurrent, completeWalk}
 use Rattle.star.proofs.LawsGather.{labels-more}
 use Rattle.star.proofs.LawsGrid.{pour-snoc}
 use Rattle.star.proofs.LawsLists.{scan-snoc, after-snoc}
@@ -12,8 +13,8 @@ use Rattle.star.proofs.pouring.pour_walk.Statement.{statement}
 use Rattle.star.proofs.pouring.pour_walk.Tie as tie
 
 abbrev Inv-loop : tie.InvT-loop
-Inv-loop g₀ order areas a b n c₀ i₀ g c i = (i ≤ n) × (g ≡ pourGrid g₀ (completeWalk c₀ (labelsAt order areas a b i))) ×
-    (c ≡ after completeCurrent c₀ (labelsAt order areas a b i))
+Inv-loop g₀ order areas a b n c₀ i₀ g c i = (i ≤ n) × (g ≡ pourGrid g₀ (completeWalk c₀ (placedLabels order areas a b i))) ×
+    (c ≡ after completeCurrent c₀ (placedLabels order areas a b i))
 
 abbrev μ-loop : tie.MeasureT-loop
 μ-loop g₀ order areas a b n c₀ i₀ g c i = n - i
@@ -36,7 +37,7 @@ loop-again c =
     let t = c .before .before .before .before .before .loop-test .taken in
     let d = c .before .before .before .before .bundle-label .ensures in
     let more = labels-more (s .order .now) (s .areas .now) (s .a .now) (s .b .now) (l .i) (omega (arith, t, b .pre .whole, b .pre .few)) in
-    let xs = labelsAt (s .order .now) (s .areas .now) (s .a .now) (s .b .now) (l .i) in (
+    let xs = placedLabels (s .order .now) (s .areas .now) (s .a .now) (s .b .now) (l .i) in (
       omega arith,
       c .before .pour-into .ensures ∙ rw (
         c .before .before .complete-label .ensures,

@@ -2,13 +2,9 @@ use borrow.Author.Needs.{needs}
 use Rattle.star.proofs.topology_position.sides_none.Statement.{statement}
 use Rattle.star.proofs.topology_position.sides_none.Tie as tie
 
-returns : tie.Need-returns
-returns c = simp (c .is-none2 .ensures, c .before .is-none .ensures)
-
 pub sides-none-spec : {M : Type 1} → statement M
 sides-none-spec =
     tie.close
     (tie.spec
-    (λ c κs. search needs)
-    (λ c κs. search needs)
-    returns)
+    (λ c κs. search needs) (λ c κs. search needs)
+    (λ c. simp (c .is-none2 .ensures, c .before .is-none .ensures)))

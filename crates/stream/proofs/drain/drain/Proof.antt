@@ -1,3 +1,4 @@
+-- The loop keeps: what is drained from here is drained from the start with the bytes used so far. Assumes nothing.
 use borrow.Author.Needs.{needs}
 use native.Mathlib.Omega.{arith}
 use denote.Ref.{now}
@@ -7,7 +8,7 @@ use mathlib.Core.Bool.{Bool, true, false}
 use mathlib.Core.List.{List}
 use lib.ListN.{length, take, drop}
 use Rattle.de9im.specs.declared.refusal.Refusal.{Refusal}
-use Rattle.plan.specs.declared.record.RecordAnswer.{RecordAnswer}
+use Rattle.de9im.specs.declared.answer.BytesAnswer.{BytesAnswer}
 use Rattle.plan.specs.Record.{recordOf}
 use Rattle.stream.specs.declared.drain.Stop.{Stop}
 use Rattle.stream.specs.declared.drain.Stop.the-variants as S
@@ -16,6 +17,7 @@ use Rattle.stream.proofs.LawsLists.{to-end, part-length}
 use Rattle.stream.proofs.LawsDrain.{Left, begins, stops-part, stops-refused, goes-on, used-fits}
 use Rattle.stream.proofs.drain.drain.Statement.{statement}
 use Rattle.stream.proofs.drain.drain.Tie as tie
+use Rattle.de9im.proofs.LawsApart.{impossible}
 
 abbrev Inv-loop : tie.InvT-loop
 Inv-loop s at₀ cells₀ at cells = (at ≤ length s) × Left s cells₀ at cells
@@ -24,7 +26,7 @@ abbrev μ-loop : tie.MeasureT-loop
 μ-loop s at₀ cells₀ at cells = length s - at
 
 -- the part that is asked reaches to the end
-is-rest : (s ns : List ℕ) (at : ℕ) (x : RecordAnswer) → x ≡ recordOf ns (take (length s - at) (drop at s)) → x ≡ recordOf ns (drop at s)
+is-rest : (s ns : List ℕ) (at : ℕ) (x : BytesAnswer) → x ≡ recordOf ns (take (length s - at) (drop at s)) → x ≡ recordOf ns (drop at s)
 is-rest s ns at x e = rw (to-end s at) at e
 
 part-rest : (s : List ℕ) (at : ℕ) (b : Bool) → b ≡ isPart (take (length s - at) (drop at s)) → b ≡ isPart (drop at s)
@@ -47,7 +49,7 @@ returns c =
 
 -- stopped at a refused record
 clash : {A : Type 0} {x : Stop} {r : Refusal} → x ≡ S.Refused r → x ≡ S.Part → A
-clash e f = absurd (let z : _≡_ {A = ℕ} 0 1 = cc in omega arith)
+clash e f = impossible (cc)
 
 returns-2 : tie.Need-returns-2 Inv-loop μ-loop
 returns-2 c =

@@ -1,3 +1,4 @@
+-- Fewer than two bytes, or fewer than the two promise. Assumes nothing.
 use borrow.Author.Needs.{needs}
 use borrow.Author.Tests.{lt-ltb, le-ltb, ltb-true}
 use native.Mathlib.Omega.{arith}
@@ -15,7 +16,7 @@ returns : tie.Need-returns
 returns c = (rw (lt-ltb _ _ (c .if1 .taken)), λ e. omega arith)
 
 returns-2 : tie.Need-returns-2
-returns-2 c = (rw (le-ltb _ _ (c .before .before .before .if1 .left), c .half-of .ensures .0), λ e. by _ _ e (c .half-of .ensures .1))
+returns-2 c = (rw (le-ltb _ _ (c .before .before .before .if1 .left), c .two-bytes .ensures .0), λ e. by _ _ e (c .two-bytes .ensures .1))
 
 pub is-part-spec : {M : Type 1} → statement M
 is-part-spec =

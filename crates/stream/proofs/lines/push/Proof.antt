@@ -1,3 +1,4 @@
+-- The bytes are copied behind those that stand, and there is room. Assumes nothing.
 use borrow.Author.Needs.{needs}
 use native.Mathlib.Omega.{arith}
 use mathlib.Core.Path.{_≡_, refl, ap, _∙_}

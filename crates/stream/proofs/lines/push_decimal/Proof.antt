@@ -1,3 +1,4 @@
+-- The digits of the number, fewest of them, are copied behind the text. Assumes nothing.
 use borrow.Author.Needs.{needs}
 use native.Mathlib.Omega.{arith}
 use mathlib.Core.Path.{_≡_, refl, sym, ap, _∙_}

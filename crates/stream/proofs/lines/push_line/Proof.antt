@@ -1,3 +1,4 @@
+-- The name, then yes or no by the answer, each behind what stands. Assumes nothing.
 use borrow.Author.Needs.{needs}
 use native.Mathlib.Omega.{arith}
 use mathlib.Core.Path.{_≡_, refl, sym, ap, _∙_}

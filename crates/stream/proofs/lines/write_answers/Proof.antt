@@ -1,3 +1,4 @@
+-- The letters, a newline, six lines and five, in this order. Assumes nothing.
 use borrow.Author.Needs.{needs}
 use native.Mathlib.Omega.{arith}
 use mathlib.Core.Path.{_≡_, refl, sym, ap, _∙_}

@@ -1,3 +1,4 @@
+-- One clause of `Prints` for each thing that is told. Assumes nothing.
 use borrow.Author.Needs.{needs}
 use native.Mathlib.Omega.{arith}
 use mathlib.Core.Path.{_≡_, refl, sym, ap, _∙_}

@@ -1,3 +1,4 @@
+-- One clause of `Follows` for what the read brought. Assumes nothing.
 use borrow.Author.Needs.{needs}
 use native.Mathlib.Omega.{arith}
 use Rattle.stream.proofs.reading.after.Statement.{statement}

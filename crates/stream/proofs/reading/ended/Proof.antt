@@ -1,3 +1,4 @@
+-- Nothing is left exactly when the rest is empty; else it is refusal 1. Assumes nothing.
 use borrow.Author.Needs.{needs}
 use borrow.Author.Tests.{eq-eqb, ne-eqb}
 use Rattle.stream.proofs.reading.ended.Statement.{statement}

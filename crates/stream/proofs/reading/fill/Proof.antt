@@ -1,3 +1,4 @@
+-- The read writes behind what stands, at least one byte and no more than there is room for. Assumes nothing.
 use borrow.Author.Needs.{needs}
 use native.Mathlib.Omega.{arith}
 use Prim.Native.Nat.{ℕ, _+_, _-_, _≤_, _<_}

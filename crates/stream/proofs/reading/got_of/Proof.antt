@@ -1,3 +1,4 @@
+-- A negative answer is a failure; else none is the end, and a count within the room is bytes. Assumes nothing.
 use Prim.Native.Nat.{ℕ}
 use native.Mathlib.Omega.{arith}
 use mathlib.Core.Path.{_≡_, refl, ap, _∙_}
@@ -13,6 +14,7 @@ use Rattle.stream.specs.declared.reading.Got.the-variants as G
 use Rattle.stream.specs.Reading.{gotOf}
 use Rattle.stream.proofs.reading.got_of.Statement.{statement}
 use Rattle.stream.proofs.reading.got_of.Tie as tie
+use Rattle.de9im.proofs.LawsApart.{impossible}
 
 -- the test `got < 0`, on the number that the machine reads back from got's bits
 below : (z : ℤ) (n : ℕ) → ltZ z (pos 0) ≡ true → G.Failed ≡ gotOf z n
@@ -21,11 +23,11 @@ below (negsuc k) n e = refl
 
 at-end : (z : ℤ) (n : ℕ) → ltZ z (pos 0) ≡ false → n ≡ 0 → G.End ≡ gotOf z n
 at-end (pos k) n e z = rw (eq-eqb n 0 z)
-at-end (negsuc k) n e z = absurd (let y : _≡_ {A = ℕ} 0 1 = cc in omega arith)
+at-end (negsuc k) n e z = impossible (cc)
 
 some : (z : ℤ) (n : ℕ) → ltZ z (pos 0) ≡ false → (n ≡ 0 → ⊥) → G.Bytes n ≡ gotOf z n
 some (pos k) n e z = rw (ne-eqb n 0 z)
-some (negsuc k) n e z = absurd (let y : _≡_ {A = ℕ} 0 1 = cc in omega arith)
+some (negsuc k) n e z = impossible (cc)
 
 returns : tie.Need-returns
 returns c =

@@ -1,3 +1,4 @@
+-- A part of a record needs more, a refused one is told. Assumes nothing.
 use borrow.Author.Needs.{needs}
 use Rattle.stream.proofs.reading.next_of.Statement.{statement}
 use Rattle.stream.proofs.reading.next_of.Tie as tie

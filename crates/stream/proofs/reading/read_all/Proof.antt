@@ -1,3 +1,5 @@
+-- The loop keeps: what is told of the rest and what follows it is told of all bytes so far. The bytes read grow, and are bounded.
+-- Assumes nothing.
 use borrow.Author.Needs.{needs}
 use native.Mathlib.Omega.{arith}
 use Prim.Native.Nat.{_+_, _-_}
@@ -8,10 +10,10 @@ use Rattle.stream.proofs.reading.read_all.Statement.{statement}
 use Rattle.stream.proofs.reading.read_all.Tie as tie
 
 abbrev Inv-loop : tie.InvT-loop
-Inv-loop buf₀ t₀ buf t = Since buf t
+Inv-loop fd buf₀ t₀ buf t = Since buf t
 
 abbrev μ-loop : tie.MeasureT-loop
-μ-loop buf₀ t₀ buf t = 9223372036855000000 - (t .off + (t .have - t .at))
+μ-loop fd buf₀ t₀ buf t = 9223372036855000000 - (t .off + (t .have - t .at))
 
 loop-holds : tie.Need-loop-holds Inv-loop μ-loop
 unfolding cellLetterOf

@@ -1,3 +1,4 @@
+-- The rest is copied to the front byte by byte, and the numbers move with it. Assumes nothing.
 use borrow.Author.Needs.{needs}
 use native.Mathlib.Omega.{arith}
 use Prim.Native.Nat.{ℕ, _+_, _-_, _≤_, _<_}

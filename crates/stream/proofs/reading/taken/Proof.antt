@@ -1,3 +1,4 @@
+-- What is drained of the rest with the new bytes is at most all of it; the offset grows by what was used. Assumes nothing.
 use borrow.Author.Needs.{needs}
 use native.Mathlib.Omega.{arith}
 use mathlib.Core.Path.{_≡_, refl, sym, ap, _∙_}

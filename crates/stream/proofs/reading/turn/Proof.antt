@@ -1,3 +1,4 @@
+-- With room made and a read done, what follows is what `after` says of the new bytes. Assumes nothing.
 use borrow.Author.Needs.{needs}
 use native.Mathlib.Omega.{arith}
 use mathlib.Core.Path.{_≡_}
@@ -18,7 +19,7 @@ after-requires c κs =
     let q = c .before .before .before .before .before .before .before in
     let r = q .with-room .ensures in
     let w = q .with-room in
-    let e = fits-same (w .result .have) (length (w .last .0)) (length (f .last .0)) (f .result) (search needs) (f .ensures .0) in
+    let e = fits-same (w .result .have) (length (w .last .0)) (length (f .last .1 .0)) (f .result) (search needs) (f .ensures .0) in
     ((r .order, e), (search needs, omega (arith, r .off, q .before .before .if1 .left)))
 
 returns-2 : tie.Need-returns-2
@@ -29,7 +30,7 @@ returns-2 c =
     let i = q .before .before in
     let s = i .before .before .before in
     let room = r .ensures .room in
-    turned-follows (now (s .args .buf)) (s .args .t) (r .last .0) (r .result) (s .pre) (r .ensures) (f .last .0) (f .result) _
+    turned-follows (now (s .args .buf)) (s .args .t) (r .last .0) (r .result) (s .pre) (r .ensures) (f .last .1 .0) (f .result) _
     (f .ensures .1)
     (rw room at (f .ensures .0)) (search needs) (omega (arith, r .ensures .off, i .if1 .left)) (c .after .ensures)
 

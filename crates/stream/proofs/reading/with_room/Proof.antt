@@ -1,3 +1,4 @@
+-- The rest is shorter than a longest record, so once it stands at the front there is room. Assumes nothing.
 use borrow.Author.Needs.{needs}
 use native.Mathlib.Omega.{arith}
 use mathlib.Core.Path.{_≡_, refl, sym, ap, _∙_}

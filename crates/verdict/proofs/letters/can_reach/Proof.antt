@@ -1,3 +1,4 @@
+-- Each meaning by its own clause of `reachOf`. Assumes nothing.
 use borrow.Author.Needs.{needs}
 use Rattle.verdict.proofs.letters.can_reach.Statement.{statement}
 use Rattle.verdict.proofs.letters.can_reach.Tie as tie

@@ -1,3 +1,4 @@
+-- Each meaning by its own clause of `firmOf`. Assumes nothing.
 use borrow.Author.Needs.{needs}
 use Rattle.verdict.proofs.letters.is_firm.Statement.{statement}
 use Rattle.verdict.proofs.letters.is_firm.Tie as tie

@@ -12,7 +12,7 @@ use Rattle.de9im.specs.Letters.{letterOf}
 use Rattle.de9im.specs.Patterns.{isLetter}
 use Rattle.de9im.proofs.LawsText.{badFrom, bad-next, bad-here, bad-end}
 use Rattle.verdict.specs.Judges.{goodLetter, not-nine, bad-byte}
-use Rattle.verdict.specs.Table.{reachOf, firmOf, every}
+use Rattle.verdict.specs.Inner.Table.{reachOf, firmOf, every}
 use Rattle.verdict.proofs.LawsLoop.{everyFrom, every-next, every-end, given}
 use Rattle.verdict.proofs.LawsPattern.{numbers}
 use Rattle.verdict.proofs.pattern.of_cells.Statement.{statement}

@@ -1,3 +1,4 @@
+-- By the nine numbers of the matrix. Assumes nothing.
 use borrow.Author.Needs.{needs}
 use Rattle.verdict.proofs.pattern.of_matrix.Statement.{statement}
 use Rattle.verdict.proofs.pattern.of_matrix.Tie as tie

@@ -1,3 +1,4 @@
+-- Both largest are 2 exactly when each row and column has a 2. Assumes nothing.
 use borrow.Author.Needs.{needs}
 use Rattle.verdict.proofs.predicate.are_areas.Statement.{statement}
 use Rattle.verdict.proofs.predicate.are_areas.Tie as tie

@@ -1,3 +1,4 @@
+-- One clause of `verdictOf` for each predicate, by the test that decides it. Assumes nothing.
 use borrow.Author.Needs.{needs}
 use Rattle.verdict.proofs.predicate.at.Statement.{statement}
 use Rattle.verdict.proofs.predicate.at.Tie as tie

@@ -1,3 +1,4 @@
+-- The largest of three is 3 exactly when one of them is. Assumes nothing.
 use borrow.Author.Needs.{needs}
 use Rattle.verdict.proofs.LawsCrossing.{any-area}
 use Rattle.verdict.proofs.predicate.has_area.Statement.{statement}

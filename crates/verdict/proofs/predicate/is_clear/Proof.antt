@@ -1,3 +1,4 @@
+-- Two cells, each F by its number. Assumes nothing.
 use borrow.Author.Needs.{needs}
 use Rattle.verdict.proofs.predicate.is_clear.Statement.{statement}
 use Rattle.verdict.proofs.predicate.is_clear.Tie as tie

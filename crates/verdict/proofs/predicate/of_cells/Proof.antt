@@ -1,3 +1,4 @@
+-- The table's verdict of the matrix that the numbers stand for is demand 3's. Assumes nothing.
 use borrow.Author.Needs.{needs}
 use Rattle.verdict.proofs.LawsPredicate.{predicate-sound}
 use Rattle.verdict.proofs.predicate.of_cells.Statement.{statement}

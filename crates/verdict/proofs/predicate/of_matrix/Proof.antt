@@ -1,3 +1,4 @@
+-- The table's verdict is demand 3's, for the nine numbers of the matrix. Assumes nothing.
 use borrow.Author.Needs.{needs}
 use Rattle.verdict.proofs.LawsPredicate.{matrix-sound}
 use Rattle.verdict.proofs.predicate.of_matrix.Statement.{statement}

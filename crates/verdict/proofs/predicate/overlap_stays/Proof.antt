@@ -1,3 +1,4 @@
+-- Two areas, and three cells that are not F. Assumes nothing.
 use borrow.Author.Needs.{needs}
 use Rattle.verdict.proofs.predicate.overlap_stays.Statement.{statement}
 use Rattle.verdict.proofs.predicate.overlap_stays.Tie as tie

@@ -1,3 +1,0 @@
-pub mod LawsWords
-pub mod LawsStars
-pub mod LawsPlaces

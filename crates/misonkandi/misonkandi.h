@@ -1,0 +1,292 @@
+/* Misonkandi for C: DE-9IM matrices, their eleven predicates and patterns, and what fills a matrix: plan records, the
+ * ends at a node, points and boxes, stored reports. `sh tools/library.sh` builds the library for the processor at hand,
+ * target/native/libmisonkandi.a.
+ *
+ * Every function of the library is proved to answer what its contract says, for all bytes and numbers that it can be
+ * given; this header says the same in words. Two duties are left to the caller:
+ *
+ *   - A pointer leads to as many bytes as its parameter says, or to `count` bytes. Where `count` is 0 the pointer is
+ *     not used and may be NULL; no other may.
+ *   - What a call writes overlaps nothing else that the call is lent: the proofs don't cover that. Two that are only
+ *     read may overlap.
+ *
+ * No call keeps a pointer, allocates or waits, and every call ends. There is no state but the bytes that are lent, so
+ * any threads may call at once, each on bytes of its own. Of the C library no more is needed than memcpy, memmove and
+ * memset.
+ *
+ * Stack: MISONKANDI_STACK_BYTES are enough for any call. misonkandi_star takes most, about 3,900 bytes on x86-64 and
+ * AArch64, misonkandi_bundle 2,800, misonkandi_record 2,500, each other less than 256: the compiler's frame sizes,
+ * added up along the calls, of which none leads back to itself. bindings/c/run.sh measures it on a painted stack.
+ */
+#ifndef MISONKANDI_H
+#define MISONKANDI_H
+
+#include <stddef.h>
+#include <stdint.h>
+
+#define MISONKANDI_VERSION "0.2.0"
+#define MISONKANDI_VERSION_MAJOR 0
+#define MISONKANDI_VERSION_MINOR 2
+#define MISONKANDI_VERSION_PATCH 0
+
+#define MISONKANDI_STACK_BYTES 8192
+
+#ifdef __cplusplus
+extern "C" {
+#endif
+
+/* ---- Answers and refusals ----
+ *
+ * An answer is one word below 2^31. A refusal is 2^31 + 256 * number + place. A call that answers more than a word will
+ * be lent an array of numbers for it.
+ *
+ * A refused call leaves every byte that it was lent as it was. An accepted call that writes cells writes all nine, each
+ * 0 to 3: no larger number is left.
+ */
+
+/* Whether a word is no answer: a refusal, or MISONKANDI_NO_SUCH_ROW. */
+#define MISONKANDI_REFUSED(word) (((word) >> 31) != 0)
+
+/* Of a word that is refused: why, one of the numbers below; and the bad byte's place, 0 to 8 (0 for all numbers but
+ * MISONKANDI_REFUSAL_BAD_BYTE). */
+#define MISONKANDI_NUMBER(word) (((word) >> 8) & 0x7FFFFF)
+#define MISONKANDI_PLACE(word) ((word) & 0xFF)
+
+/* The answer where there is no such predicate. It is no refusal: as one, its number would be 8,388,607. */
+#define MISONKANDI_NO_SUCH_ROW 0xFFFFFFFFu
+
+enum misonkandi_refusals {
+    MISONKANDI_REFUSAL_SHORT = 1,           /* fewer bytes than the length field needs or promises */
+    MISONKANDI_REFUSAL_VERSION = 2,         /* version not 1 */
+    MISONKANDI_REFUSAL_KIND = 3,            /* record kind not 1 or 2 */
+    MISONKANDI_REFUSAL_LENGTH = 4,          /* length wrong for its kind, or for a report; ends that are not whole */
+    MISONKANDI_REFUSAL_ENDS = 5,            /* more than 32 ends */
+    MISONKANDI_REFUSAL_POSITION_CODE = 6,   /* position code above 3, or none where a node lies */
+    MISONKANDI_REFUSAL_LABEL_KIND = 7,      /* label kind above 1, or a line label with a side */
+    MISONKANDI_REFUSAL_DIRECTION = 8,       /* direction 0,0 or a part beyond 2,000,000,000 in size */
+    MISONKANDI_REFUSAL_MISSING_LEFT = 9,    /* for A or for B, some area bundle has a left and some only a right */
+    MISONKANDI_REFUSAL_NOT_NINE_BYTES = 10, /* text or pattern not nine bytes */
+    MISONKANDI_REFUSAL_BAD_BYTE = 11,       /* bad byte in a text, pattern or report; the place is the first one's */
+    MISONKANDI_REFUSAL_NO_ROOM = 12,        /* offset beyond the buffer, or fewer than 12 bytes from it */
+    MISONKANDI_REFUSAL_NOT_A_PLACE = 13     /* coordinate not finite, box without min < max on an axis, kind above 1 */
+};
+
+/* ---- The matrix ----
+ *
+ * A matrix says of two geometries A and B in which dimension the interior (I), boundary (B) and exterior (E) of A meet
+ * those of B. It is nine bytes, its cells read row by row: II IB IE BI BB BE EI EB EE, A's part first. A cell is 0, 1,
+ * 2 or 3 for the dimensions F (they don't meet), 0, 1, 2; a larger number is read as 3, dimension 2, by every call. As
+ * text a matrix is nine letters of F, 0, 1, 2.
+ */
+#define MISONKANDI_CELLS 9
+
+/* uint8_t cells[MISONKANDI_CELLS] = MISONKANDI_START; is FFFFFFFF2: nothing is known but that the exteriors meet. */
+#define MISONKANDI_START {0, 0, 0, 0, 0, 0, 0, 0, 3}
+
+enum misonkandi_cells {
+    MISONKANDI_II,
+    MISONKANDI_IB,
+    MISONKANDI_IE,
+    MISONKANDI_BI,
+    MISONKANDI_BB,
+    MISONKANDI_BE,
+    MISONKANDI_EI,
+    MISONKANDI_EB,
+    MISONKANDI_EE
+};
+
+enum misonkandi_dimensions {
+    MISONKANDI_DIMENSION_F = 0, /* they don't meet */
+    MISONKANDI_DIMENSION_0 = 1, /* in points */
+    MISONKANDI_DIMENSION_1 = 2, /* in lines */
+    MISONKANDI_DIMENSION_2 = 3  /* in areas */
+};
+
+/* Where something lies against one geometry. */
+enum misonkandi_positions {
+    MISONKANDI_NONE = 0, /* not known, or nothing to know */
+    MISONKANDI_INSIDE = 1,
+    MISONKANDI_ON_BOUNDARY = 2,
+    MISONKANDI_OUTSIDE = 3
+};
+
+/* Reads nine letters: 0 and the cells written, or refusal 10, or 11 for a byte other than F, 0, 1, 2 (so for f). */
+uint32_t misonkandi_from_text(uint8_t cells[9], const uint8_t *text, size_t count);
+
+/* Raises each cell to at least its letter: 0 and the cells written, or refusal 10 or 11 as above and no cell raised. */
+uint32_t misonkandi_raise_from_text(uint8_t cells[9], const uint8_t *text, size_t count);
+
+/* Writes the nine letters. No zero byte stands after them. */
+void misonkandi_to_text(const uint8_t cells[9], uint8_t text[9]);
+
+/* Sets the cell at (a, b), positions against A and against B, to a dimension (enum misonkandi_dimensions; a larger
+ * number is read as 3, dimension 2). A none changes no cell. 0 and the cells written, or refusal 6 for a position
+ * above 3. */
+uint32_t misonkandi_set(uint8_t cells[9], uint32_t a, uint32_t b, uint8_t dimension);
+
+/* The same, but the cell becomes the larger of what it was and the dimension. */
+uint32_t misonkandi_set_at_least(uint8_t cells[9], uint32_t a, uint32_t b, uint8_t dimension);
+
+/* The matrix of B and A: rows and columns exchanged. */
+void misonkandi_transpose(uint8_t cells[9]);
+
+/* ---- Predicates and patterns ----
+ *
+ * A pattern is nine bytes, one for each cell: * anything, T or t not F, F or f F, 0, 1, 2 that dimension.
+ *
+ * The eleven predicates, by their row. In crosses and overlaps a is the largest of II, IB, IE and b of II, BI, EI.
+ */
+enum misonkandi_rows {
+    MISONKANDI_DISJOINT,          /* II, IB, BI, BB all F */
+    MISONKANDI_INTERSECTS,        /* not disjoint */
+    MISONKANDI_WITHIN,            /* T*F**F*** */
+    MISONKANDI_CONTAINS,          /* T*****FF* */
+    MISONKANDI_EQUAL_TOPO,        /* the matrix is FFFFFFFF2, or T*F**FFF* */
+    MISONKANDI_COVEREDBY,         /* T*F**F*** or *TF**F*** or **FT*F*** or **F*TF*** */
+    MISONKANDI_COVERS,            /* T*****FF* or *T****FF* or ***T**FF* or ****T*FF* */
+    MISONKANDI_CONTAINS_PROPERLY, /* T**FF*FF* */
+    MISONKANDI_TOUCHES,           /* FT******* or F**T***** or F***T**** */
+    MISONKANDI_CROSSES,           /* a below b and T*T******; a above b and T*****T**; both 1 and II is 0 */
+    MISONKANDI_OVERLAPS           /* both 1 and 1*T***T**; both 0, or both 2, and T*T***T** */
+};
+
+#define MISONKANDI_ROWS 11
+
+/* The row of a predicate's name, as it stands above but in lower case ("equal_topo"), or MISONKANDI_NO_SUCH_ROW. The
+ * count is strlen's: no zero byte is looked for. */
+uint32_t misonkandi_predicate_named(const uint8_t *name, size_t count);
+
+/* One answer, 1 yes or 0 no, or MISONKANDI_NO_SUCH_ROW. */
+uint32_t misonkandi_predicate(const uint8_t cells[9], uint32_t row);
+
+/* All eleven answers: bit k, 1 << k, is row k's. */
+uint32_t misonkandi_predicates(const uint8_t cells[9]);
+
+/* Whether the matrix matches a pattern: 1 yes, 0 no, or a refusal. The cells are walked in order and the first that
+ * disagrees gives no, even if a later byte is bad: refusal 11 is for a bad byte that is reached. 10 comes first. */
+uint32_t misonkandi_matches(const uint8_t cells[9], const uint8_t *pattern, size_t count);
+
+/* ---- Early verdicts ----
+ *
+ * What no further record can change. Pouring records (below) only raises cells, so some answers are for good before the
+ * last record is read.
+ */
+enum misonkandi_verdicts {
+    MISONKANDI_NO_FOR_GOOD = 0,  /* no, now and after any run of accepted records */
+    MISONKANDI_YES_FOR_GOOD = 1, /* yes, now and after any run of accepted records */
+    MISONKANDI_OPEN = 2          /* some run of at most nine records ends in yes, and some in no */
+};
+
+/* The verdict of the predicate in that row, or MISONKANDI_NO_SUCH_ROW. */
+uint32_t misonkandi_verdict(const uint8_t cells[9], uint32_t row);
+
+/* The verdict of a pattern, or refusal 10, or 11: the whole pattern is checked before any cell is looked at. */
+uint32_t misonkandi_verdict_pattern(const uint8_t cells[9], const uint8_t *pattern, size_t count);
+
+/* ---- Points and boxes ---- */
+enum misonkandi_place_kinds {
+    MISONKANDI_POINT = 0, /* the first corner; the second corner's numbers are not looked at */
+    MISONKANDI_BOX = 1    /* from its min corner, the first, to its max corner */
+};
+
+/* The matrix of two places, each a kind and two corners: (ax, ay) and (bx, by) of A, (cx, cy) and (dx, dy) of B. Only
+ * comparisons are made; -0 equals 0. A point has no boundary. 0 and the cells written, or refusal 13. */
+uint32_t misonkandi_relate_places(uint32_t kind_a, double ax, double ay, double bx, double by,
+                                  uint32_t kind_b, double cx, double cy, double dx, double dy, uint8_t cells[9]);
+
+/* ---- Labels and ends, bundles and stars ----
+ *
+ * A label says what both geometries know of an edge: where the edge itself lies and, for an area's edge, what lies to
+ * its left and to its right, seen along its direction. Seven bytes:
+ *
+ *   0        kind: 0 of a line or a point, 1 of an area
+ *   1, 2, 3  for A: the position on it, to its left, to its right (enum misonkandi_positions)
+ *   4, 5, 6  the same for B
+ *
+ * Kind 0 has no sides: bytes 2, 3, 5, 6 are 0.
+ *
+ * An end is the end of an edge at a node, seen from the node. Fifteen bytes:
+ *
+ *   0 to 3   dx, how far it goes east: signed (two's complement), the high byte first
+ *   4 to 7   dy, how far north, likewise; not both are 0, and neither is beyond 2,000,000,000 in size
+ *   8 to 14  its label
+ *
+ * Ends with one direction are a bundle. Joined, they have one label: an area's if any end's is. Its on, for each
+ * geometry: an odd number of ends on the boundary gives OnBoundary, an even one above 0 Inside; if no end is there,
+ * Inside if any end is Inside, else none. Its left, if it is an area's, from the ends with area labels: Inside if any
+ * is, else Outside if any is, else none; and so its right.
+ *
+ * The bundles at a node, counterclockwise from the east, are its star. It is completed for A, then for B:
+ *
+ *   - The start is the left of the last area bundle that has one. If none has, this step does nothing. Else walk in
+ *     order with a current position, first the start: an on of none becomes the current one; at an area bundle whose
+ *     right is known the current one becomes its left; at an area bundle whose right is none both sides become the
+ *     current one. A known right without a left is refusal 9.
+ *   - Then every position still none becomes Outside if the last bundle is a line's and OnBoundary for that geometry;
+ *     else the node's area position, or Outside if that is none (the geometry is no area). A line's label has no sides.
+ *
+ * Both calls check as a record does: 4 if the bytes are no whole ends; 5; for a star 6, an area position above 3; each
+ * end in turn 8, its label's kind 7, its codes 6, its sides 7; last, for a star, 9.
+ */
+#define MISONKANDI_LABEL_BYTES 7
+#define MISONKANDI_END_BYTES 15
+#define MISONKANDI_MOST_ENDS 32
+
+enum misonkandi_label_kinds { MISONKANDI_LINE = 0, MISONKANDI_AREA = 1 };
+
+/* Joins all ends into one label, whatever their directions: 0 and the label written, or a refusal. */
+uint32_t misonkandi_bundle(const uint8_t *ends, size_t count, uint8_t label[7]);
+
+/* The completed labels of the star of these ends, in order: how many (0 to 32), with seven bytes written for each and
+ * zeros after them up to 32 * 7; or a refusal. The area positions are the node's against A's and B's area, none for a
+ * geometry that is no area. */
+uint32_t misonkandi_star(const uint8_t *ends, size_t count, uint32_t area_a, uint32_t area_b, uint8_t labels[224]);
+
+/* ---- Plan records ----
+ *
+ * A record is a node with the ends at it, or an edge that meets no node.
+ *
+ *   A node:                                                      An isolated edge:
+ *   0, 1  length: how many bytes follow, high byte first, 7+15n   0, 1     length, 9
+ *   2     version, 1                                              2        version, 1
+ *   3     kind, 1                                                 3        kind, 2
+ *   4, 5  the node's position against A and B, not none           4 to 10  a label
+ *   6, 7  its position against A's and B's area, none for no area
+ *   8     n, how many ends follow: 0 to 32
+ *   9..   n ends, in any order
+ *
+ * Pouring it raises cells, each to at least a dimension; a none raises nothing. A node raises the cell of its two
+ * positions to 0, and each completed label of its star is poured. A label raises the cell of its two ons to 1 and, if
+ * it is an area's, that of its two lefts and that of its two rights to 2. An isolated edge's label is poured as it is.
+ *
+ * Checked in this order: 1; a length below 2 is 4; 2; 3; a length below 7 (node) or not 9 (edge) is 4; 5; a length not
+ * 7 + 15n is 4; the node's four positions 6; each end in turn 8, its label's kind 7, its codes 6, its sides 7; last 9.
+ * An edge's label: kind 7, codes 6, sides 7.
+ */
+enum misonkandi_record_kinds { MISONKANDI_NODE = 1, MISONKANDI_EDGE = 2 };
+
+/* The most bytes that an accepted record has: 2 + 7 + 15 * 32. */
+#define MISONKANDI_MOST_RECORD_BYTES 489
+
+/* Pours one record into the cells: the bytes that it used, 2 + its length, or refusal 1 to 9. Bytes after it don't
+ * matter, so the next record may stand there. */
+uint32_t misonkandi_record(uint8_t cells[9], const uint8_t *bytes, size_t count);
+
+/* ---- Stored reports ----
+ *
+ * A report is a matrix to be kept: 0, 10 (how many bytes follow), 1 (the version), and its nine letters.
+ */
+#define MISONKANDI_REPORT_BYTES 12
+
+/* Reads a report: 12, the bytes used, and the cells written; or a refusal, looked for in the order 1, 4, 2, 11 (its
+ * place is a letter's, 0 to 8). Bytes after it don't matter. */
+uint32_t misonkandi_read_report(uint8_t cells[9], const uint8_t *bytes, size_t count);
+
+/* Writes a report into a buffer of `count` bytes from `offset` on: 12, every other byte as it was; or refusal 12. */
+uint32_t misonkandi_write_report(const uint8_t cells[9], uint8_t *buffer, size_t count, size_t offset);
+
+#ifdef __cplusplus
+}
+#endif
+
+#endif

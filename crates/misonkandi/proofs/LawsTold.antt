@@ -1,0 +1,133 @@
+-- Words tell answers apart: two answers with one word are one answer, a refusal's word is no answer's, and the word for no such row is
+-- neither's. Places below 256 and numbers below 2^31 are what they ask; the calls' are (LawsFit.antt). Assumes nothing.
+use Prim.Native.Nat.{ℕ, _+_, _*_, _≤_, _<_}
+use mathlib.Core.Path.{_≡_, refl, sym, ap, _∙_}
+use mathlib.Core.List.{List, [], _∷_}
+use native.Mathlib.Omega.{arith}
+use lib.ListN.{getD}
+use Rattle.de9im.specs.declared.answer.Answer.{Answer}
+use Rattle.de9im.specs.declared.answer.Answer.the-variants as A
+use Rattle.de9im.specs.declared.answer.Checked.{Checked}
+use Rattle.de9im.specs.declared.answer.Checked.the-variants as C
+use Rattle.de9im.specs.declared.patterns.Matched.{Matched}
+use Rattle.de9im.specs.declared.patterns.Matched.the-variants as M
+use Rattle.de9im.specs.declared.refusal.Refusal.{Refusal}
+use Rattle.de9im.specs.declared.refusal.Refusal.the-variants as R
+use Rattle.de9im.specs.Answers.{checkedPlace, matchedPlace, answerPlace, usedOf}
+use Rattle.de9im.specs.Refused.{numberOf, placeOf, spotNo}
+use Rattle.de9im.proofs.LawsApart.{impossible}
+use Rattle.verdict.specs.declared.Verdict.{Verdict}
+use Rattle.verdict.specs.declared.Verdict.the-variants.{NoForGood, YesForGood, Open}
+use Rattle.verdict.specs.declared.pattern.Judged.{Judged}
+use Rattle.verdict.specs.declared.pattern.Judged.the-variants as J
+use Rattle.misonkandi.specs.Records.{answerWord}
+use Rattle.verdict.specs.Answers.{judgedPlace}
+use Rattle.misonkandi.specs.Verdicts.{verdictNo, judgedWord}
+use Rattle.misonkandi.specs.Words.{refusalWord, noSuchRow, matchedWord, wordOr, checkedWord}
+use Rattle.misonkandi.proofs.LawsWords.{number-small}
+
+-- the refusal with a number and a place: row n has number n
+abbrev refusals : ℕ → List Refusal
+refusals k =
+    R.Short ∷ R.Short ∷ R.Version ∷ R.Kind ∷ R.Length ∷ R.Ends ∷ R.PositionCode ∷ R.LabelKind ∷ R.Direction ∷ R.MissingLeft ∷
+    R.NotNineBytes ∷ R.BadByte k ∷ R.NoRoom ∷ R.NotAPlace ∷ []
+
+abbrev refusalAt : ℕ → ℕ → Refusal
+refusalAt n k = getD (refusals k) n R.Short
+
+-- a refusal is the one with its number and its place
+known : (r : Refusal) → r ≡ refusalAt (numberOf r) (spotNo (placeOf r))
+known R.Short = refl
+known R.Version = refl
+known R.Kind = refl
+known R.Length = refl
+known R.Ends = refl
+known R.PositionCode = refl
+known R.LabelKind = refl
+known R.Direction = refl
+known R.MissingLeft = refl
+known R.NotNineBytes = refl
+known (R.BadByte k) = refl
+known R.NoRoom = refl
+known R.NotAPlace = refl
+
+-- a byte beside a multiple of 256
+digits : (n k m j : ℕ) → k < 256 → j < 256 → 2147483648 + (256 * n + k) ≡ 2147483648 + (256 * m + j) → (n ≡ m) × (k ≡ j)
+digits n k m j h i e = (omega arith, omega arith)
+
+pub refusal-told : (r q : Refusal) → spotNo (placeOf r) < 256 → spotNo (placeOf q) < 256 → refusalWord r ≡ refusalWord q → r ≡ q
+refusal-told r q h i e =
+    let d = digits (numberOf r) (spotNo (placeOf r)) (numberOf q) (spotNo (placeOf q)) h i e in
+    known r ∙ ap (λ n. refusalAt n (spotNo (placeOf r))) (d .0) ∙ ap (λ k. refusalAt (numberOf q) k) (d .1) ∙ sym (known q)
+
+-- from 2^31 on, and below the word for no such row
+pub refusal-high : (r : Refusal) → 2147483648 ≤ refusalWord r
+refusal-high r = omega arith
+
+pub refusal-low : (r : Refusal) → spotNo (placeOf r) < 256 → refusalWord r < noSuchRow
+refusal-low r h = omega (arith, number-small r)
+
+-- so neither an answer's
+pub no-answer : {A : Type 0} (n : ℕ) (r : Refusal) → n < 2147483648 → n ≡ refusalWord r → A
+no-answer n r h e = absurd (omega (arith, refusal-high r))
+
+pub row-no-answer : {A : Type 0} (n : ℕ) → n < 2147483648 → n ≡ noSuchRow → A
+row-no-answer n h e = absurd (omega arith)
+
+pub row-no-refusal : {A : Type 0} (r : Refusal) → spotNo (placeOf r) < 256 → refusalWord r ≡ noSuchRow → A
+row-no-refusal r h e = absurd (omega (arith, refusal-low r h))
+
+-- yes, no or refused
+pub matched-told : (a b : Matched) → spotNo (matchedPlace a) < 256 → spotNo (matchedPlace b) < 256 → matchedWord a ≡ matchedWord b → a ≡ b
+matched-told M.No M.No h i e = refl
+matched-told M.No M.Yes h i e = absurd (omega arith)
+matched-told M.No (M.Refused q) h i e = no-answer 0 q (omega arith) e
+matched-told M.Yes M.No h i e = absurd (omega arith)
+matched-told M.Yes M.Yes h i e = refl
+matched-told M.Yes (M.Refused q) h i e = no-answer 1 q (omega arith) e
+matched-told (M.Refused r) M.No h i e = no-answer 0 r (omega arith) (sym e)
+matched-told (M.Refused r) M.Yes h i e = no-answer 1 r (omega arith) (sym e)
+matched-told (M.Refused r) (M.Refused q) h i e = ap M.Refused (refusal-told r q h i e)
+
+-- a number or refused: the case, and the number where there is one
+pub or-told : (a b : Checked) (n m : ℕ) → spotNo (checkedPlace a) < 256 → spotNo (checkedPlace b) < 256 → n < 2147483648 → m < 2147483648
+    → wordOr a n ≡ wordOr b m → (a ≡ b) × (a ≡ C.Fine → n ≡ m)
+or-told C.Fine C.Fine n m h i j k e = (refl, λ _. e)
+or-told C.Fine (C.Refused q) n m h i j k e = no-answer n q j e
+or-told (C.Refused r) C.Fine n m h i j k e = no-answer m r k (sym e)
+or-told (C.Refused r) (C.Refused q) n m h i j k e =
+    (ap C.Refused (refusal-told r q h i e), λ f. impossible (cc))
+
+pub checked-told : (a b : Checked) → spotNo (checkedPlace a) < 256 → spotNo (checkedPlace b) < 256 → checkedWord a ≡ checkedWord b → a ≡ b
+checked-told a b h i e = or-told a b 0 0 h i (omega arith) (omega arith) e .0
+
+-- bytes used or refused
+pub answer-told : (a b : Answer) → spotNo (answerPlace a) < 256 → spotNo (answerPlace b) < 256 → usedOf a < 2147483648
+    → usedOf b < 2147483648 → answerWord a ≡ answerWord b → a ≡ b
+answer-told (A.Used n) (A.Used m) h i j k e = ap A.Used e
+answer-told (A.Used n) (A.Refused q) h i j k e = no-answer n q j e
+answer-told (A.Refused r) (A.Used m) h i j k e = no-answer m r k (sym e)
+answer-told (A.Refused r) (A.Refused q) h i j k e = ap A.Refused (refusal-told r q h i e)
+
+-- verdicts
+abbrev verdictAt : ℕ → Verdict
+verdictAt n = getD (NoForGood ∷ YesForGood ∷ Open ∷ []) n Open
+
+verdict-known : (v : Verdict) → v ≡ verdictAt (verdictNo v)
+verdict-known NoForGood = refl
+verdict-known YesForGood = refl
+verdict-known Open = refl
+
+verdict-small : (v : Verdict) → verdictNo v < 3
+verdict-small NoForGood = omega arith
+verdict-small YesForGood = omega arith
+verdict-small Open = omega arith
+
+pub verdict-told : (v w : Verdict) → verdictNo v ≡ verdictNo w → v ≡ w
+verdict-told v w e = verdict-known v ∙ ap verdictAt e ∙ sym (verdict-known w)
+
+pub judged-told : (a b : Judged) → spotNo (judgedPlace a) < 256 → spotNo (judgedPlace b) < 256 → judgedWord a ≡ judgedWord b → a ≡ b
+judged-told (J.Is v) (J.Is w) h i e = ap J.Is (verdict-told v w e)
+judged-told (J.Is v) (J.Refused q) h i e = no-answer (verdictNo v) q (omega (arith, verdict-small v)) e
+judged-told (J.Refused r) (J.Is w) h i e = no-answer (verdictNo w) r (omega (arith, verdict-small w)) (sym e)
+judged-told (J.Refused r) (J.Refused q) h i e = ap J.Refused (refusal-told r q h i e)

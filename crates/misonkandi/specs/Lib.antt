@@ -1,0 +1,7 @@
+pub mod Words
+pub mod Rows
+pub mod Changes
+pub mod Records
+pub mod Places
+pub mod Stars
+pub mod Verdicts

@@ -1,0 +1,53 @@
+-- Each arm copies its own name.
+use borrow.Author.Needs.{needs}
+use Rattle.predicates.proofs.names.write_name.Statement.{statement}
+use Rattle.predicates.proofs.names.write_name.Tie as tie
+
+pub write-name-spec : {M : Type 1} → statement M
+write-name-spec =
+    tie.close
+    (tie.spec
+    (λ c. search needs)
+    (λ c. search needs)
+    (λ c κs. search needs)
+    (λ c. search needs)
+    (λ c. search needs)
+    (λ c κs. search needs)
+    (λ c. search needs)
+    (λ c. search needs)
+    (λ c κs. search needs)
+    (λ c. search needs)
+    (λ c. search needs)
+    (λ c κs. search needs)
+    (λ c. search needs)
+    (λ c. search needs)
+    (λ c κs. search needs)
+    (λ c. search needs)
+    (λ c. search needs)
+    (λ c κs. search needs)
+    (λ c. search needs)
+    (λ c. search needs)
+    (λ c κs. search needs)
+    (λ c. search needs)
+    (λ c. search needs)
+    (λ c κs. search needs)
+    (λ c. search needs)
+    (λ c. search needs)
+    (λ c κs. search needs)
+    (λ c. search needs)
+    (λ c. search needs)
+    (λ c κs. search needs)
+    (λ c. search needs)
+    (λ c. search needs)
+    (λ c κs. search needs)
+    (λ c. rw (c .before .before .before .enum-told .given .1) (c .copy .ensures))
+    (λ c. rw (c .before .before .before .enum-told2 .given .1) (c .copy2 .ensures))
+    (λ c. rw (c .before .before .before .enum-told3 .given .1) (c .copy3 .ensures))
+    (λ c. rw (c .before .before .before .enum-told4 .given .1) (c .copy4 .ensures))
+    (λ c. rw (c .before .before .before .enum-told5 .given .1) (c .copy5 .ensures))
+    (λ c. rw (c .before .before .before .enum-told6 .given .1) (c .copy6 .ensures))
+    (λ c. rw (c .before .before .before .enum-told7 .given .1) (c .copy7 .ensures))
+    (λ c. rw (c .before .before .before .enum-told8 .given .1) (c .copy8 .ensures))
+    (λ c. rw (c .before .before .before .enum-told9 .given .1) (c .copy9 .ensures))
+    (λ c. rw (c .before .before .before .enum-told10 .given .1) (c .copy10 .ensures))
+    (λ c. rw (c .before .before .before .enum-told11 .given .1) (c .copy11 .ensures)))

@@ -1,0 +1,133 @@
+// A case: a letter for the call, then bytes in hex. These are the nine cells lent, the answer's word (4 bytes), two numbers a and b
+// (4 each), a dimension, the count of bytes given (2), the bytes given, and what the call must leave in what it may write. Numbers
+// have their high byte first. Zeros at the end of a case may be left off.
+use crate::matrix_calls;
+use crate::plan_calls;
+ghost use mathlib.Core.Path.{_≡_};
+ghost use Prim.Native.Nat.{_+_, _≤_, _<_};
+ghost use lib.ListN.{length};
+
+pub type Case = [u8; 1024];
+
+// What stands in a case before the bytes given.
+pub struct Head {
+    pub cells: [u8; 9],
+    pub word: u32,
+    pub a: u32,
+    pub b: u32,
+    pub dimension: u8,
+}
+
+fn nibble(b: u8) -> u8
+    ensures { λ r. ⌜ r < 16 ⌝ }
+{
+    match b {
+        b'0'..=b'9' => b - 48,
+        b'a'..=b'f' => b - 87,
+        _ => 0,
+    }
+}
+
+// A byte from its two digits.
+fn byte(high: u8, low: u8) -> u8 {
+    16 * nibble(high) + nibble(low)
+}
+
+fn least(a: usize, b: usize) -> usize
+    ensures { λ r. ⌜ (r ≤ a) × (r ≤ b) ⌝ }
+{
+    if a < b { a } else { b }
+}
+
+// Two digits a byte; zeros where there are no more digits.
+pub(crate) fn decoded(digits: &[u8]) -> Case {
+    let mut out = [0u8; 1024];
+    let n = least(digits.len() / 2, 1024);
+    for k in 0..n {
+        out[k] = byte(digits[2 * k], digits[2 * k + 1]);
+    }
+    out
+}
+
+fn wide(x: u8) -> u32
+    ensures { λ r. ⌜ r < 256 ⌝ }
+{
+    x as u32
+}
+
+// A number of four bytes, the high one first.
+fn four(a: u8, b: u8, c: u8, d: u8) -> u32 {
+    16777216 * wide(a) + 65536 * wide(b) + 256 * wide(c) + wide(d)
+}
+
+fn head_of(c: Case) -> Head {
+    Head {
+        cells: [c[0], c[1], c[2], c[3], c[4], c[5], c[6], c[7], c[8]],
+        word: four(c[9], c[10], c[11], c[12]),
+        a: four(c[13], c[14], c[15], c[16]),
+        b: four(c[17], c[18], c[19], c[20]),
+        dimension: c[21],
+    }
+}
+
+// How many bytes are given: at most 600.
+fn count(c: Case) -> usize
+    ensures { λ n. ⌜ n ≤ 600 ⌝ }
+{
+    least((256 * wide(c[22]) + wide(c[23])) as usize, 600)
+}
+
+// How many bytes a call may write: a label, a star's labels, a buffer of n bytes, or nine cells or letters.
+fn room(letter: u8, n: usize) -> usize
+    requires { ⌜ n ≤ 600 ⌝ }
+    ensures { λ r. ⌜ n + r ≤ 1000 ⌝ }
+{
+    match letter {
+        b'B' => 7,
+        b'K' => 224,
+        b'E' => least(n, 100),
+        _ => 9,
+    }
+}
+
+// Whether the library answers as the case says; a letter that there isn't agrees with nothing.
+fn asked(letter: u8, h: Head, given: &[u8], due: &[u8]) -> bool {
+    match letter {
+        b'P' => matrix_calls::predicates(h),
+        b'Q' => matrix_calls::predicate(h),
+        b'H' => matrix_calls::predicate_named(h, given),
+        b'M' => matrix_calls::matches(h, given),
+        b'T' => matrix_calls::from_text(h, given, due),
+        b'R' => matrix_calls::raise_from_text(h, given, due),
+        b'O' => matrix_calls::to_text(h, due),
+        b'S' => matrix_calls::set(h, due),
+        b'L' => matrix_calls::set_at_least(h, due),
+        b'X' => matrix_calls::transpose(h, due),
+        b'V' => matrix_calls::verdict(h),
+        b'W' => matrix_calls::verdict_pattern(h, given),
+        b'G' => plan_calls::relate_places(h, given, due),
+        b'B' => plan_calls::bundle(h, given, due),
+        b'K' => plan_calls::star(h, given, due),
+        b'N' => plan_calls::record(h, given, due),
+        b'D' => plan_calls::read_report(h, given, due),
+        _ => false,
+    }
+}
+
+// Takes the bytes given and those due out of a case. A report is written into a copy of the case.
+fn parted(letter: u8, h: Head, n: usize, c: &[u8], copy: &mut [u8]) -> bool
+    requires { ⌜ (n ≤ 600) × (length (now c) ≡ 1024) × (length (now copy) ≡ 1024) ⌝ }
+{
+    let from = 24 + n;
+    let to = from + room(letter, n);
+    let due = &c[from..to];
+    if letter == b'E' {
+        return plan_calls::write_report(h, &mut copy[24..from], due);
+    }
+    asked(letter, h, &c[24..from], due)
+}
+
+pub(crate) fn agrees(letter: u8, c: Case) -> bool {
+    let mut copy = c;
+    parted(letter, head_of(c), count(c), &c, &mut copy)
+}
