@@ -1,14 +1,55 @@
 #!/bin/sh
-# Runs the program on each sample plan and compares what it prints with the file beside it.
+# Runs ./relate on each sample plan, on each example of docs/REFUSALS.md and on words that it doesn't take, and
+# compares what it prints and says.
 set -eu
 cd "$(dirname "$0")/.."
+work=$(mktemp -d)
+trap 'rm -rf "$work"' EXIT
 failed=0
+wrong() { echo "WRONG $*" && failed=1; }
+
+./relate </dev/null >"$work/out" # proved and built first, if it isn't
+
+# each plan, as a file and as standard input
 for plan in samples/*.plan; do
     name=${plan%.plan}
-    if ./relate <"$plan" | cmp - "$name.txt"; then
+    ./relate "$plan" >"$work/out" 2>"$work/said"
+    ./relate <"$plan" >"$work/again" 2>>"$work/said"
+    if cmp "$work/out" "$name.txt" && cmp "$work/again" "$name.txt"; then
         echo "ok ${name#samples/}: $(head -n 1 "$name.txt")"
     else
-        failed=1
+        wrong "$plan"
+    fi
+    case $(cat "$name.txt") in refused*) said=2 ;; *) said=0 ;; esac
+    [ "$(wc -l <"$work/said")" -eq "$said" ] || wrong "$plan: $said lines on standard error"
+done
+
+# each example of the page on refusals: a line `$ printf .. | ./relate`, and below it what is printed and said
+awk '/^\$ printf .*\| \.\/relate$/ { print substr($0, 3); getline; print; getline; print }' docs/REFUSALS.md \
+    >"$work/examples"
+count=0
+while IFS= read -r command && IFS= read -r print && IFS= read -r said; do
+    sh -c "$command" >"$work/out" 2>"$work/said"
+    count=$((count + 1))
+    [ "$(cat "$work/out")" = "$print" ] || wrong "$command prints $(cat "$work/out")"
+    [ "$(cat "$work/said")" = "$said" ] || wrong "$command says $(cat "$work/said")"
+done <"$work/examples"
+[ "$count" -ge 9 ] || wrong "docs/REFUSALS.md has $count examples"
+echo "ok $count examples of docs/REFUSALS.md"
+
+# words that it doesn't take: nothing printed, one line said, status 2
+for words in --nothing -h samples 'samples/same.plan samples/same.plan' samples/none.plan; do
+    status=0
+    # shellcheck disable=SC2086
+    ./relate $words >"$work/out" 2>"$work/said" || status=$?
+    if [ "$status" -eq 2 ] && [ ! -s "$work/out" ] && [ "$(wc -l <"$work/said")" -eq 1 ]; then
+        echo "ok $(cat "$work/said")"
+    else
+        wrong "./relate $words"
     fi
 done
+./relate --help >"$work/out"
+[ "$(wc -l <"$work/out")" -le 24 ] || wrong "the help is longer than a screen"
+
+[ "$failed" -eq 0 ] && echo "all samples are as they should be"
 exit "$failed"

@@ -1,24 +1,42 @@
-/* Ten lines of use: a plan record from bytes to nine letters, a predicate, and a pattern that is refused. */
+/* A plan record from bytes to nine letters, a predicate by its row and one by its name, and a refused pattern. */
 #include "misonkandi.h"
 #include <stdio.h>
+#include <string.h>
 
-/* P1 of document 01: a node on the boundary of both areas, where four walls end (east, north, west, south). */
+enum { NONE = MISONKANDI_NONE, I = MISONKANDI_INSIDE, B = MISONKANDI_ON_BOUNDARY, E = MISONKANDI_OUTSIDE };
+
+/* A node on the boundary of both areas, where four walls end: A's outline runs north and south, B's east and west. */
 static const uint8_t record[] = {
-    0, 67, 1, 1, 2, 2, 2, 2, 4,                               /* length, version, kind, positions, four ends */
-    0, 0, 0, 2, 0, 0, 0, 0, 1, 0, 0, 0, 2, 1, 3,              /* east: B's outline, its inside to the left */
-    0, 0, 0, 0, 0, 0, 0, 2, 1, 2, 1, 3, 0, 0, 0,              /* north: A's, its inside to the left */
-    255, 255, 255, 254, 0, 0, 0, 0, 1, 0, 0, 0, 2, 3, 1,      /* west: B's, its inside to the right */
-    0, 0, 0, 0, 255, 255, 255, 254, 1, 2, 3, 1, 0, 0, 0,      /* south: A's, its inside to the right */
+    0, 67, 1, MISONKANDI_NODE, B, B, B, B, 4, /* length, version, kind, positions, four ends */
+    0, 0, 0, 2,         0, 0, 0, 0,         MISONKANDI_AREA, NONE, NONE, NONE, B, I, E, /* east: B's inside is left */
+    0, 0, 0, 0,         0, 0, 0, 2,         MISONKANDI_AREA, B, I, E, NONE, NONE, NONE, /* north: A's is left */
+    255, 255, 255, 254, 0, 0, 0, 0,         MISONKANDI_AREA, NONE, NONE, NONE, B, E, I, /* west: B's is right */
+    0, 0, 0, 0,         255, 255, 255, 254, MISONKANDI_AREA, B, E, I, NONE, NONE, NONE  /* south: A's is right */
 };
 
+static const uint8_t *bytes(const char *text) { return (const uint8_t *)text; }
+
+static void tell_pattern(const uint8_t cells[MISONKANDI_CELLS], const char *pattern) {
+    uint32_t word = misonkandi_matches(cells, bytes(pattern), strlen(pattern));
+    if (!MISONKANDI_REFUSED(word))
+        printf("%s %s\n", pattern, word == 1 ? "yes" : "no");
+    else if (MISONKANDI_NUMBER(word) == MISONKANDI_REFUSAL_BAD_BYTE)
+        printf("%s refused: a bad byte at %u\n", pattern, (unsigned)MISONKANDI_PLACE(word));
+    else
+        printf("%s refused %u\n", pattern, (unsigned)MISONKANDI_NUMBER(word));
+}
+
 int main(void) {
-    uint8_t cells[9], text[9];
-    misonkandi_from_text(cells, (const uint8_t *)"FFFFFFFF2", 9);
-    printf("used %u bytes\n", (unsigned)misonkandi_record(cells, record, sizeof record));
+    uint8_t cells[MISONKANDI_CELLS] = MISONKANDI_START, text[MISONKANDI_CELLS];
+    uint32_t used = misonkandi_record(cells, record, sizeof record);
+    if (MISONKANDI_REFUSED(used)) return 1;
     misonkandi_to_text(cells, text);
-    printf("matrix %.9s\n", (const char *)text);
-    printf("overlaps %s\n", misonkandi_predicate(cells, 10) == 1 ? "yes" : "no");
-    unsigned word = (unsigned)misonkandi_matches(cells, (const uint8_t *)"T*X******", 9);
-    if (word > 1) printf("pattern refused %u at %u\n", word / 256, word % 256);
+    printf("used %u bytes, the matrix is %.9s\n", (unsigned)used, (const char *)text);
+    printf("overlaps %s\n", misonkandi_predicate(cells, MISONKANDI_OVERLAPS) == 1 ? "yes" : "no");
+    uint32_t row = misonkandi_predicate_named(bytes("touches"), strlen("touches"));
+    if (row == MISONKANDI_NO_SUCH_ROW) return 1;
+    printf("touches %s\n", misonkandi_verdict(cells, row) == MISONKANDI_NO_FOR_GOOD ? "no, for good" : "perhaps");
+    tell_pattern(cells, "T*T***T**");
+    tell_pattern(cells, "T*X******");
     return 0;
 }

@@ -1,17 +1,22 @@
 #!/bin/sh
-# Builds the library as oracle/library.sh does, tests this crate against it, and runs the example. On x86-64 the archive
-# itself is linked; elsewhere the same LLVM module, compiled for the processor at hand.
-# MISONKANDI_LIB_DIR names a folder with the library, if one is built already.
+# Builds the library (tools/library.sh), tests this crate over it, and runs the example. On x86-64 the archive itself is
+# linked; elsewhere the same LLVM module, compiled for the processor at hand.
+# MISONKANDI_LIB_DIR names a folder with the library for this processor, if one is built already.
 set -eu
 built=${MISONKANDI_LIB_DIR:+$(cd "$MISONKANDI_LIB_DIR" && pwd)}
 cd "$(dirname "$0")"
 
-[ -n "$built" ] || sh ../../oracle/library.sh
-MISONKANDI_LIB_DIR=${built:-$(cd ../../target/staticlib && pwd)}
+[ -n "$built" ] || sh ../../tools/library.sh
+MISONKANDI_LIB_DIR=${built:-$(cd ../../target/native && pwd)}
 export MISONKANDI_LIB_DIR
 
 cargo test --quiet
 cargo test --quiet --test replay -- --nocapture
+# Without the calls that answer a list, for a host that doesn't allocate.
+cargo test --quiet --no-default-features --tests
+if cargo clippy --version >/dev/null 2>&1; then
+    cargo clippy --quiet --all-targets -- -D warnings
+fi
 
 # The example, on its own records and on a run of bytes: a node, an isolated edge, and one that is cut short.
 new=$(mktemp)

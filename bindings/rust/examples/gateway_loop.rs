@@ -11,7 +11,7 @@
 use std::env;
 use std::io::{self, Read};
 
-use misonkandi::{CoordPos, EdgeEnd, IntersectionMatrix, Label, Predicate, Sides};
+use misonkandi::{CoordPos, EdgeEnd, IntersectionMatrix, Label, Predicate, Record, Refusal, Sides};
 
 /// The questions of this gateway, and what it does at a yes.
 const QUESTIONS: [(Predicate, &str); 4] = [
@@ -125,7 +125,7 @@ fn main() -> io::Result<()> {
         io::stdin().read_to_end(&mut bytes)?;
         run(&mut room, &bytes);
     } else {
-        messages(&mut room, &built_in());
+        messages(&mut room, &built_in().expect("good records"));
     }
     room.close();
     Ok(())
@@ -146,19 +146,14 @@ fn end(dx: i32, dy: i32, a: [Option<CoordPos>; 3], b: [Option<CoordPos>; 3]) -> 
     EdgeEnd { dx, dy, label }
 }
 
-/// A node record: where it lies in A and in B, in their areas, and the walls that end there.
-fn node(positions: [Option<CoordPos>; 4], ends: &[EdgeEnd]) -> Vec<u8> {
-    let length = 7 + 15 * ends.len() as u16;
-    let mut record = length.to_be_bytes().to_vec();
-    record.extend([1, 1]);
-    record.extend(positions.map(CoordPos::code));
-    record.push(ends.len() as u8);
-    record.extend(ends.iter().flat_map(|end| end.bytes()));
-    record
+/// The record of a node: where it lies against A and B, and so against their areas, and the walls that end there.
+fn node(on: [CoordPos; 2], ends: &[EdgeEnd]) -> Result<Vec<u8>, Refusal> {
+    Ok(Record::node(on, on.map(Some), ends)?.to_vec())
 }
 
 /// A floor's records, as they came in.
-fn built_in() -> Vec<(&'static str, Vec<u8>)> {
+fn built_in() -> Result<Vec<(&'static str, Vec<u8>)>, Refusal> {
+    use CoordPos::{OnBoundary, Outside};
     let none = [None; 3];
     // Where the two outlines cross: A's runs north and south, B's east and west.
     let crossing = [
@@ -167,23 +162,22 @@ fn built_in() -> Vec<(&'static str, Vec<u8>)> {
         end(-2, 0, none, [B, E, I]),
         end(0, -2, [B, E, I], none),
     ];
-    let mut torn = node([B; 4], &crossing);
-    torn.truncate(40);
-    vec![
+    let crossed = node([OnBoundary; 2], &crossing)?;
+    Ok(vec![
         (
             "a corner of the cover area, outside the room",
-            node([B, E, B, E], &[]),
+            node([OnBoundary, Outside], &[])?,
         ),
-        ("a message torn off on the way", torn),
+        ("a message torn off on the way", crossed[..40].to_vec()),
         (
             "a corner of the room, on the cover area's outline",
-            node([B, B, B, B], &[]),
+            node([OnBoundary; 2], &[])?,
         ),
-        ("where the outlines cross", node([B; 4], &crossing)),
+        ("where the outlines cross", crossed.clone()),
         (
             "a corner of the room, outside the cover area",
-            node([E, B, E, B], &[]),
+            node([Outside, OnBoundary], &[])?,
         ),
-        ("the other crossing", node([B; 4], &crossing)),
-    ]
+        ("the other crossing", crossed),
+    ])
 }

@@ -1,15 +1,16 @@
 //! Misonkandi for Rust: the proved DE-9IM matrix under the names of the crate geo 0.33.1.
 //!
 //! Where a program says `use geo::relate::IntersectionMatrix`, `geo::coordinate_position::CoordPos` or
-//! `geo::dimensions::Dimensions`, it may say `misonkandi` for `geo`. Each call goes to `libgateway.a`, in which every
+//! `geo::dimensions::Dimensions`, it may say `misonkandi` for `geo`. Each call goes to `libmisonkandi.a`, in which every
 //! function is proved to meet its contract; this crate only turns enums into the library's numbers and back. Its own code
 //! isn't proved: its tests replay stored answers of geo and of GEOS through it.
 //!
 //! ```
-//! use misonkandi::{IntersectionMatrix, Predicate, Refusal};
+//! use misonkandi::{CoordPos, IntersectionMatrix, Predicate, Record, Refusal};
 //!
 //! let mut matrix = IntersectionMatrix::empty_disjoint();
-//! let corner = [0, 7, 1, 1, 1, 2, 0, 0, 0]; // a plan record: inside A, on B's boundary, no walls end there
+//! // A plan record: a node inside A and on B's boundary, in no area, where no walls end.
+//! let corner = Record::node([CoordPos::Inside, CoordPos::OnBoundary], [None, None], &[])?;
 //! assert_eq!(matrix.pour_record(&corner), Ok(9)); // nine bytes used
 //! assert_eq!(matrix.to_string(), "F0FFFFFF2");
 //! assert!(matrix.is_touches());
@@ -17,12 +18,19 @@
 //! assert_eq!(matrix.matches("*0X******"), Err(Refusal::BadByte(2))); // refusal 11 at place 2
 //! let yes = Predicate::ALL.into_iter().filter(|&p| matrix.ask(p)).map(Predicate::name);
 //! assert_eq!(yes.collect::<Vec<_>>(), ["intersects", "coveredby", "covers", "touches"]);
+//! # Ok::<(), Refusal>(())
 //! ```
 //!
 //! What differs from geo: a refusal is a number and a place, not a text; raising from text is all or nothing; `set`,
 //! `set_at_least` and their kin are public. docs/DIFFERENCES.md has the list, and what was run to know it.
+//!
+//! The crate needs no `std`. Its feature `alloc`, on by default, is for [`star`] and [`star_of_bytes`], which answer a list.
+#![no_std]
 #![deny(unsafe_code)]
-#![warn(missing_docs)]
+#![warn(missing_docs, clippy::undocumented_unsafe_blocks)]
+
+#[cfg(feature = "alloc")]
+extern crate alloc;
 
 #[allow(unsafe_code)]
 mod c;
@@ -30,6 +38,7 @@ mod matrix;
 mod place;
 mod positions;
 mod predicate;
+mod record;
 mod refusal;
 mod star;
 mod verdict;
@@ -37,12 +46,12 @@ mod verdict;
 pub use matrix::{IntersectionMatrix, REPORT_BYTES};
 pub use place::{Coord, Place, relate_coded};
 pub use positions::{CoordPos, Dimensions};
-pub use predicate::Predicate;
+pub use predicate::{NoSuchPredicate, Predicate};
+pub use record::{MOST_RECORD_BYTES, Record};
 pub use refusal::{InvalidInputError, Refusal};
-pub use star::{
-    END_BYTES, EdgeEnd, LABEL_BYTES, Label, MOST_ENDS, Sides, bundle, bundle_of_bytes, star,
-    star_of_bytes,
-};
+pub use star::{END_BYTES, EdgeEnd, LABEL_BYTES, Label, MOST_ENDS, Sides, bundle, bundle_of_bytes};
+#[cfg(feature = "alloc")]
+pub use star::{star, star_of_bytes};
 pub use verdict::Verdict;
 
 /// geo's module of this name. geo's own example of reading a matrix, with `misonkandi` for `geo`:

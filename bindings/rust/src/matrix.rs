@@ -1,12 +1,12 @@
 //! geo's `IntersectionMatrix` over the proved library.
 
-use std::fmt;
-use std::str::FromStr;
+use core::fmt;
+use core::str::FromStr;
 
 use crate::c;
 use crate::positions::{CoordPos, Dimensions};
 use crate::predicate::Predicate;
-use crate::refusal::{Refusal, accepted, used};
+use crate::refusal::{Refusal, answered};
 
 /// A DE-9IM matrix: how interior, boundary and exterior of two geometries meet. It has geo's names and takes the place of
 /// geo's type of the same name; nine bytes, without a pointer.
@@ -36,11 +36,13 @@ pub const REPORT_BYTES: usize = 12;
 
 impl IntersectionMatrix {
     /// FFFFFFFFF, as in geo.
+    #[must_use]
     pub const fn empty() -> Self {
         IntersectionMatrix { cells: [0; 9] }
     }
 
     /// The start matrix FFFFFFFF2: geometries are finite and the plane is not. In geo the crate's own.
+    #[must_use]
     pub const fn empty_disjoint() -> Self {
         IntersectionMatrix {
             cells: [0, 0, 0, 0, 0, 0, 0, 0, 3],
@@ -49,6 +51,7 @@ impl IntersectionMatrix {
 
     /// The matrix of nine numbers, row by row as II IB IE BI BB BE EI EB EE: 0 to 3 for F, 0, 1, 2. A larger number is
     /// read as 2, as every call of the library reads it (`matrixOf`, crates/de9im/specs/Cells.antt).
+    #[must_use]
     pub fn from_cells(cells: [u8; 9]) -> Self {
         IntersectionMatrix {
             cells: cells.map(|cell| cell.min(3)),
@@ -56,6 +59,7 @@ impl IntersectionMatrix {
     }
 
     /// Its nine numbers, each 0 to 3.
+    #[must_use]
     pub const fn cells(&self) -> [u8; 9] {
         self.cells
     }
@@ -63,6 +67,7 @@ impl IntersectionMatrix {
     /// The dimension in which `lhs` of the first geometry and `rhs` of the second meet. As in geo.
     ///
     /// Read here, in Rust, from the nine numbers: the C interface has no call for it.
+    #[must_use]
     pub const fn get(&self, lhs: CoordPos, rhs: CoordPos) -> Dimensions {
         Dimensions::of_number(self.cells[3 * lhs.row() + rhs.row()])
     }
@@ -106,14 +111,14 @@ impl IntersectionMatrix {
     /// 2). A none changes nothing.
     ///
     /// Refused: 6 for a position code above 3, and nothing changed. Promised: `changedWord`, `changedCells`,
-    /// crates/gateway/specs/Words.antt.
+    /// crates/misonkandi/specs/Changes.antt.
     pub fn set_coded(&mut self, a: u32, b: u32, dimension: u8) -> Result<(), Refusal> {
-        accepted(c::set(&mut self.cells, a, b, dimension))
+        answered(c::set(&mut self.cells, a, b, dimension)).map(|_| ())
     }
 
     /// [`set_at_least`](Self::set_at_least) by codes, as [`set_coded`](Self::set_coded).
     pub fn set_at_least_coded(&mut self, a: u32, b: u32, dimension: u8) -> Result<(), Refusal> {
-        accepted(c::set_at_least(&mut self.cells, a, b, dimension))
+        answered(c::set_at_least(&mut self.cells, a, b, dimension)).map(|_| ())
     }
 
     /// Raises each cell to at least its letter, or refuses and raises none. In geo the crate's own; there, cells before a
@@ -126,7 +131,7 @@ impl IntersectionMatrix {
 
     /// The same of any bytes.
     pub fn set_at_least_from_bytes(&mut self, dimensions: &[u8]) -> Result<(), Refusal> {
-        accepted(c::raise_from_text(&mut self.cells, dimensions))
+        answered(c::raise_from_text(&mut self.cells, dimensions)).map(|_| ())
     }
 
     /// Reads nine letters of `F`, `0`, `1`, `2` from any bytes. [`FromStr`] does the same of a `str`.
@@ -134,17 +139,21 @@ impl IntersectionMatrix {
     /// Refused: 10 for another count, 11 with the first bad byte's place. Promised: `readOf`, crates/de9im/specs/Text.antt.
     pub fn from_bytes(text: &[u8]) -> Result<Self, Refusal> {
         let mut cells = [0; 9];
-        accepted(c::from_text(&mut cells, text))?;
+        answered(c::from_text(&mut cells, text))?;
         Ok(IntersectionMatrix { cells })
     }
 
     /// Its nine letters. Promised: `textOf`, crates/de9im/specs/Text.antt; reading them gives the matrix again
     /// (`read-written`, crates/de9im/proofs/LawsRoundTrip.antt).
+    #[must_use]
     pub fn letters(&self) -> [u8; 9] {
-        c::to_text(&self.cells)
+        let mut text = [0; 9];
+        c::to_text(&self.cells, &mut text);
+        text
     }
 
     /// The matrix with the two geometries exchanged. Promised: `transposedOf`, crates/de9im/specs/Matrix.antt.
+    #[must_use]
     pub fn transposed(&self) -> Self {
         let mut cells = self.cells;
         c::transpose(&mut cells);
@@ -163,21 +172,19 @@ impl IntersectionMatrix {
 
     /// [`matches`](Self::matches) of any bytes.
     pub fn matches_bytes(&self, spec: &[u8]) -> Result<bool, Refusal> {
-        match c::matches(&self.cells, spec) {
-            0 => Ok(false),
-            1 => Ok(true),
-            word => Err(Refusal::of_word(word)),
-        }
+        answered(c::matches(&self.cells, spec)).map(|word| word == 1)
     }
 
-    /// The answer of any of the eleven predicates. Promised: `holds`, crates/de9im/specs/Predicates.antt: document 01's
+    /// The answer of any of the eleven predicates. Promised: `holds`, crates/predicates/specs/Predicates.antt: document 01's
     /// table, row by row.
+    #[must_use]
     pub fn ask(&self, predicate: Predicate) -> bool {
         c::predicate(&self.cells, predicate.number()) == 1
     }
 
     /// All eleven answers in one call, in the order of [`Predicate::ALL`]. Promised: `answersOf`,
-    /// crates/gateway/specs/Words.antt.
+    /// crates/misonkandi/specs/Rows.antt.
+    #[must_use]
     pub fn answers(&self) -> [bool; 11] {
         let bits = c::predicates(&self.cells);
         Predicate::ALL.map(|predicate| bits >> predicate.number() & 1 == 1)
@@ -187,57 +194,68 @@ impl IntersectionMatrix {
 /// geo's predicates. Each is [`ask`](Self::ask) of one row of document 01's table.
 impl IntersectionMatrix {
     /// No point in common: II, IB, BI, BB all F.
+    #[must_use]
     pub fn is_disjoint(&self) -> bool {
         self.ask(Predicate::Disjoint)
     }
 
     /// Not disjoint.
+    #[must_use]
     pub fn is_intersects(&self) -> bool {
         self.ask(Predicate::Intersects)
     }
 
     /// `T*F**F***`.
+    #[must_use]
     pub fn is_within(&self) -> bool {
         self.ask(Predicate::Within)
     }
 
     /// `T*****FF*`.
+    #[must_use]
     pub fn is_contains(&self) -> bool {
         self.ask(Predicate::Contains)
     }
 
     /// FFFFFFFF2, or `T*F**FFF*`.
+    #[must_use]
     pub fn is_equal_topo(&self) -> bool {
         self.ask(Predicate::EqualTopo)
     }
 
     /// `T*F**F***`, `*TF**F***`, `**FT*F***` or `**F*TF***`.
+    #[must_use]
     pub fn is_coveredby(&self) -> bool {
         self.ask(Predicate::CoveredBy)
     }
 
     /// `T*****FF*`, `*T****FF*`, `***T**FF*` or `****T*FF*`.
+    #[must_use]
     pub fn is_covers(&self) -> bool {
         self.ask(Predicate::Covers)
     }
 
     /// `T**FF*FF*`.
+    #[must_use]
     pub fn is_contains_properly(&self) -> bool {
         self.ask(Predicate::ContainsProperly)
     }
 
     /// `FT*******`, `F**T*****` or `F***T****`.
+    #[must_use]
     pub fn is_touches(&self) -> bool {
         self.ask(Predicate::Touches)
     }
 
     /// With a the largest of II, IB, IE and b the largest of II, BI, EI: a below b and `T*T******`; a above b and
     /// `T*****T**`; both 1 and II is 0.
+    #[must_use]
     pub fn is_crosses(&self) -> bool {
         self.ask(Predicate::Crosses)
     }
 
     /// With a and b as in [`is_crosses`](Self::is_crosses): both 1 and `1*T***T**`; both 0, or both 2, and `T*T***T**`.
+    #[must_use]
     pub fn is_overlaps(&self) -> bool {
         self.ask(Predicate::Overlaps)
     }
@@ -254,7 +272,7 @@ impl IntersectionMatrix {
     /// ```
     /// use misonkandi::{IntersectionMatrix, Refusal};
     ///
-    /// // A node that lies in A's interior and on B's boundary, where no walls end.
+    /// // A node that lies in A's interior and on B's boundary, where no walls end; `Record` writes such bytes.
     /// let record = [0, 7, 1, 1, 1, 2, 0, 0, 0];
     /// let mut matrix = IntersectionMatrix::empty_disjoint();
     /// assert_eq!(matrix.pour_record(&record), Ok(9));
@@ -262,7 +280,7 @@ impl IntersectionMatrix {
     /// assert_eq!(matrix.pour_record(&record[..8]), Err(Refusal::Short));
     /// ```
     pub fn pour_record(&mut self, bytes: &[u8]) -> Result<usize, Refusal> {
-        used(c::record(&mut self.cells, bytes))
+        answered(c::record(&mut self.cells, bytes)).map(|used| used as usize)
     }
 
     /// Reads a stored report: the matrix, and the twelve bytes used. Later bytes don't matter.
@@ -270,8 +288,8 @@ impl IntersectionMatrix {
     /// Refused: 1, 4, 2, 11, in this order. Promised: `readReport`, crates/plan/specs/Report.antt.
     pub fn read_report(bytes: &[u8]) -> Result<(Self, usize), Refusal> {
         let mut cells = [0; 9];
-        let used = used(c::read_report(&mut cells, bytes))?;
-        Ok((IntersectionMatrix { cells }, used))
+        let used = answered(c::read_report(&mut cells, bytes))?;
+        Ok((IntersectionMatrix { cells }, used as usize))
     }
 
     /// Writes a stored report into the buffer from an offset on, and answers the twelve bytes used; every other byte of the
@@ -281,10 +299,11 @@ impl IntersectionMatrix {
     /// Promised: `wroteOf`, `writtenOf`, crates/plan/specs/Report.antt; reading it gives the matrix again
     /// (`report-read-written`, crates/plan/proofs/LawsReportTrip.antt).
     pub fn write_report(&self, buffer: &mut [u8], offset: usize) -> Result<usize, Refusal> {
-        used(c::write_report(&self.cells, buffer, offset))
+        answered(c::write_report(&self.cells, buffer, offset)).map(|used| used as usize)
     }
 
     /// The report as twelve bytes.
+    #[must_use]
     pub fn report(&self) -> [u8; REPORT_BYTES] {
         let mut bytes = [0; REPORT_BYTES];
         let word = c::write_report(&self.cells, &mut bytes, 0);

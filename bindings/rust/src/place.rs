@@ -2,7 +2,7 @@
 
 use crate::c;
 use crate::matrix::IntersectionMatrix;
-use crate::refusal::{Refusal, accepted};
+use crate::refusal::{Refusal, answered};
 
 /// A corner, or a point.
 #[derive(Clone, Copy, Debug, PartialEq)]
@@ -22,11 +22,13 @@ pub enum Place {
 
 impl Place {
     /// A point.
+    #[must_use]
     pub const fn point(x: f64, y: f64) -> Place {
         Place::Point(Coord { x, y })
     }
 
     /// A box by its corners (x, y) and (u, v).
+    #[must_use]
     pub const fn rect(x: f64, y: f64, u: f64, v: f64) -> Place {
         Place::Box {
             min: Coord { x, y },
@@ -63,7 +65,7 @@ impl Place {
 }
 
 /// [`Place::relate`] for a caller that has kinds: 0 a point, its first two numbers, the others not looked at; 1 a box from
-/// (x, y) to (u, v). A kind above 1 is refused 13 too (`answerOf`, crates/gateway/specs/Places.antt).
+/// (x, y) to (u, v). A kind above 1 is refused 13 too (`answerOf`, crates/misonkandi/specs/Places.antt).
 pub fn relate_coded(
     kind_a: u32,
     a: [f64; 4],
@@ -71,6 +73,6 @@ pub fn relate_coded(
     b: [f64; 4],
 ) -> Result<IntersectionMatrix, Refusal> {
     let mut cells = [0; 9];
-    accepted(c::relate_places((kind_a, a), (kind_b, b), &mut cells))?;
+    answered(c::relate_places((kind_a, a), (kind_b, b), &mut cells))?;
     Ok(IntersectionMatrix::from_cells(cells))
 }

@@ -15,11 +15,13 @@ pub enum Dimensions {
 
 impl Dimensions {
     /// 0 to 3 for F, 0, 1, 2.
+    #[must_use]
     pub const fn number(self) -> u8 {
         self as u8
     }
 
     /// The dimension that a number stands for; a larger one than 3 is read as 2, as the library reads it.
+    #[must_use]
     pub const fn of_number(number: u8) -> Dimensions {
         match number {
             0 => Dimensions::Empty,
@@ -52,6 +54,7 @@ impl CoordPos {
     }
 
     /// Document 01's code of a position that may be none: 0 none, 1 I, 2 B, 3 E.
+    #[must_use]
     pub const fn code(position: Option<CoordPos>) -> u8 {
         match position {
             None => 0,
@@ -60,6 +63,7 @@ impl CoordPos {
     }
 
     /// What a code stands for, or nothing for a code above 3.
+    #[must_use]
     pub const fn of_code(code: u8) -> Option<Option<CoordPos>> {
         match code {
             0 => Some(None),

@@ -1,7 +1,9 @@
 //! Why a call was refused: document 01's thirteen numbers.
 
-use std::error::Error;
-use std::fmt;
+use core::error::Error;
+use core::fmt;
+
+use crate::c;
 
 /// Why a call was refused. A refused call changes nothing that it was lent.
 ///
@@ -10,6 +12,7 @@ use std::fmt;
 /// `Text.antt` for 10 and 11, `crates/plan/specs/Record.antt` and `Report.antt` for records and reports,
 /// `crates/star/specs/Calls.antt` for ends, `crates/place/specs/Relate.antt` for 13.
 #[derive(Clone, Copy, Debug, PartialEq, Eq, Hash)]
+#[non_exhaustive]
 pub enum Refusal {
     /// 1: fewer bytes than the length field needs or promises.
     Short,
@@ -45,6 +48,7 @@ pub type InvalidInputError = Refusal;
 
 impl Refusal {
     /// Document 01's number, 1 to 13.
+    #[must_use]
     pub const fn number(self) -> u32 {
         match self {
             Refusal::Short => 1,
@@ -64,6 +68,7 @@ impl Refusal {
     }
 
     /// The bad byte's place, 0 to 8. Only 11 has one.
+    #[must_use]
     pub const fn place(self) -> Option<usize> {
         match self {
             Refusal::BadByte(place) => Some(place),
@@ -71,10 +76,10 @@ impl Refusal {
         }
     }
 
-    /// What a word of the library refuses for: 256 times the number, plus the place. The library gives no other word
-    /// (`wordOf` in crates/gateway/specs/Words.antt).
-    pub(crate) fn of_word(word: u32) -> Refusal {
-        match word / 256 {
+    /// What a word of 2^31 or more refuses for: 256 times the number, plus the place. The library gives no other word
+    /// (`refusalWord`, crates/misonkandi/specs/Words.antt).
+    fn of_word(word: u32) -> Refusal {
+        match (word - c::REFUSED) / 256 {
             1 => Refusal::Short,
             2 => Refusal::Version,
             3 => Refusal::Kind,
@@ -124,18 +129,10 @@ impl fmt::Display for Refusal {
 
 impl Error for Refusal {}
 
-/// A word that is 0 or a refusal.
-pub(crate) fn accepted(word: u32) -> Result<(), Refusal> {
+/// The answer that a word of the library is, or its refusal.
+pub(crate) fn answered(word: u32) -> Result<u32, Refusal> {
     match word {
-        0 => Ok(()),
+        0..c::REFUSED => Ok(word),
         _ => Err(Refusal::of_word(word)),
-    }
-}
-
-/// A word that is the bytes used, or 2^31 plus a refusal.
-pub(crate) fn used(word: u32) -> Result<usize, Refusal> {
-    match word.checked_sub(1 << 31) {
-        None => Ok(word as usize),
-        Some(refusal) => Err(Refusal::of_word(refusal)),
     }
 }

@@ -1,8 +1,11 @@
 //! Edge ends, labels, bundles and stars.
 
+#[cfg(feature = "alloc")]
+use alloc::vec::Vec;
+
 use crate::c;
 use crate::positions::CoordPos;
-use crate::refusal::{Refusal, accepted};
+use crate::refusal::{Refusal, answered};
 
 /// What one geometry says of an edge: a position on it and, for an area's edge, to its left and to its right.
 #[derive(Clone, Copy, Debug, PartialEq, Eq, Hash, Default)]
@@ -63,6 +66,7 @@ impl Sides {
 
 impl Label {
     /// The seven bytes of a record: kind, then on, left, right of A, then of B.
+    #[must_use]
     pub fn bytes(self) -> [u8; LABEL_BYTES] {
         let [on_a, left_a, right_a] = self.a.bytes();
         let [on_b, left_b, right_b] = self.b.bytes();
@@ -78,6 +82,7 @@ impl Label {
     }
 
     /// The label of seven bytes, or nothing for a kind above 1 or a code above 3.
+    #[must_use]
     pub fn of_bytes(bytes: [u8; LABEL_BYTES]) -> Option<Label> {
         let [kind, on_a, left_a, right_a, on_b, left_b, right_b] = bytes;
         Some(Label {
@@ -94,6 +99,7 @@ impl Label {
 
 impl EdgeEnd {
     /// The fifteen bytes of a record: dx, dy (four bytes each, signed, the high byte first) and the label.
+    #[must_use]
     pub fn bytes(self) -> [u8; END_BYTES] {
         let mut bytes = [0; END_BYTES];
         bytes[..4].copy_from_slice(&self.dx.to_be_bytes());
@@ -103,8 +109,20 @@ impl EdgeEnd {
     }
 }
 
-fn bytes_of(ends: &[EdgeEnd]) -> Vec<u8> {
-    ends.iter().flat_map(|end| end.bytes()).collect()
+/// Writes ends as a record has them, one after the other, and answers those bytes. More than a record may have are
+/// refused here: every call that takes ends refuses them for nothing else first.
+pub(crate) fn write_ends<'a>(
+    ends: &[EdgeEnd],
+    room: &'a mut [u8; MOST_ENDS * END_BYTES],
+) -> Result<&'a [u8], Refusal> {
+    if ends.len() > MOST_ENDS {
+        return Err(Refusal::Ends);
+    }
+    let (places, _) = room.as_chunks_mut::<END_BYTES>();
+    for (place, end) in places.iter_mut().zip(ends) {
+        *place = end.bytes();
+    }
+    Ok(&room[..END_BYTES * ends.len()])
 }
 
 fn label_of(bytes: [u8; LABEL_BYTES]) -> Label {
@@ -116,7 +134,8 @@ fn label_of(bytes: [u8; LABEL_BYTES]) -> Label {
 /// Refused: 5; then each end in turn 8, 7. Promised: `bundledOf`, crates/star/specs/Calls.antt; the order of the ends doesn't
 /// matter (`join-shuffled`, crates/star/proofs/LawsJoin.antt).
 pub fn bundle(ends: &[EdgeEnd]) -> Result<Label, Refusal> {
-    bundle_of_bytes(&bytes_of(ends)).map(label_of)
+    let mut room = [0; MOST_ENDS * END_BYTES];
+    bundle_of_bytes(write_ends(ends, &mut room)?).map(label_of)
 }
 
 /// The same of bytes: fifteen for an end, as in a record, and seven for the label.
@@ -124,7 +143,7 @@ pub fn bundle(ends: &[EdgeEnd]) -> Result<Label, Refusal> {
 /// Refused: 4 if they are no whole ends; 5; each end in turn 8, label kind 7, codes 6, sides 7.
 pub fn bundle_of_bytes(ends: &[u8]) -> Result<[u8; LABEL_BYTES], Refusal> {
     let mut label = [0; LABEL_BYTES];
-    accepted(c::bundle(ends, &mut label))?;
+    answered(c::bundle(ends, &mut label))?;
     Ok(label)
 }
 
@@ -133,30 +152,30 @@ pub fn bundle_of_bytes(ends: &[u8]) -> Result<[u8; LABEL_BYTES], Refusal> {
 ///
 /// Refused: 5; each end in turn 8, 7; last 9. Promised: `starCall`, crates/star/specs/Calls.antt; there is one way to put ends
 /// into bundles in order (`only-order`, crates/star/proofs/LawsUnique.antt).
+#[cfg(feature = "alloc")]
 pub fn star(
     ends: &[EdgeEnd],
     area_a: Option<CoordPos>,
     area_b: Option<CoordPos>,
 ) -> Result<Vec<Label>, Refusal> {
     let (a, b) = (CoordPos::code(area_a), CoordPos::code(area_b));
-    let labels = star_of_bytes(&bytes_of(ends), a.into(), b.into())?;
+    let mut room = [0; MOST_ENDS * END_BYTES];
+    let labels = star_of_bytes(write_ends(ends, &mut room)?, a.into(), b.into())?;
     Ok(labels.into_iter().map(label_of).collect())
 }
 
 /// The same of bytes: fifteen for an end, as in a record, and seven for each label.
 ///
-/// Refused: 6 for an area code above 3, before anything else; 4 if the bytes are no whole ends; 5; each end in turn 8, label
-/// kind 7, codes 6, sides 7; last 9.
+/// Refused: 4 if the bytes are no whole ends; 5; 6 for an area code above 3; each end in turn 8, label kind 7, codes 6,
+/// sides 7; last 9.
+#[cfg(feature = "alloc")]
 pub fn star_of_bytes(
     ends: &[u8],
     area_a: u32,
     area_b: u32,
 ) -> Result<Vec<[u8; LABEL_BYTES]>, Refusal> {
     let mut labels = [0; MOST_ENDS * LABEL_BYTES];
-    let word = c::star(ends, area_a, area_b, &mut labels);
-    if word > MOST_ENDS as u32 {
-        return Err(Refusal::of_word(word));
-    }
+    let count = answered(c::star(ends, area_a, area_b, &mut labels))?;
     let (whole, _) = labels.as_chunks::<LABEL_BYTES>();
-    Ok(whole[..word as usize].to_vec())
+    Ok(whole[..count as usize].to_vec())
 }

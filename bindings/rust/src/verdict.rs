@@ -3,10 +3,11 @@
 use crate::c;
 use crate::matrix::IntersectionMatrix;
 use crate::predicate::Predicate;
-use crate::refusal::Refusal;
+use crate::refusal::{Refusal, answered};
 
 /// What is known already of an answer, whatever accepted records are still poured into the matrix.
 #[derive(Clone, Copy, Debug, PartialEq, Eq, Hash)]
+#[must_use]
 pub enum Verdict {
     /// Yes now, and after any records.
     YesForGood,
@@ -18,6 +19,7 @@ pub enum Verdict {
 
 impl Verdict {
     /// The answer, if it is for good.
+    #[must_use]
     pub const fn for_good(self) -> Option<bool> {
         match self {
             Verdict::YesForGood => Some(true),
@@ -26,12 +28,12 @@ impl Verdict {
         }
     }
 
-    fn of_word(word: u32) -> Result<Verdict, Refusal> {
-        match word {
-            0 => Ok(Verdict::NoForGood),
-            1 => Ok(Verdict::YesForGood),
-            2 => Ok(Verdict::Open),
-            _ => Err(Refusal::of_word(word)),
+    fn of_number(number: u32) -> Verdict {
+        match number {
+            0 => Verdict::NoForGood,
+            1 => Verdict::YesForGood,
+            2 => Verdict::Open,
+            _ => unreachable!("the library is proved to give no such verdict: {number}"),
         }
     }
 }
@@ -49,8 +51,7 @@ impl IntersectionMatrix {
     /// assert_eq!(matrix.verdict(Predicate::Within), Verdict::Open);
     /// ```
     pub fn verdict(&self, predicate: Predicate) -> Verdict {
-        let word = c::verdict(&self.cells(), predicate.number());
-        Verdict::of_word(word).expect("the library knows every predicate")
+        Verdict::of_number(c::verdict(&self.cells(), predicate.number()))
     }
 
     /// The same of a pattern, which is checked whole before any cell is looked at.
@@ -62,6 +63,6 @@ impl IntersectionMatrix {
 
     /// [`verdict_of_pattern`](Self::verdict_of_pattern) of any bytes.
     pub fn verdict_of_pattern_bytes(&self, spec: &[u8]) -> Result<Verdict, Refusal> {
-        Verdict::of_word(c::verdict_pattern(&self.cells(), spec))
+        answered(c::verdict_pattern(&self.cells(), spec)).map(Verdict::of_number)
     }
 }

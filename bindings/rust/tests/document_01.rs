@@ -2,7 +2,7 @@
 
 use misonkandi::{
     CoordPos, Dimensions, EdgeEnd, IntersectionMatrix, Label, Place, Predicate, REPORT_BYTES,
-    Refusal, Sides, bundle, bundle_of_bytes, relate_coded, star, star_of_bytes,
+    Record, Refusal, Sides, bundle, bundle_of_bytes, relate_coded, star, star_of_bytes,
 };
 
 const I: Option<CoordPos> = Some(CoordPos::Inside);
@@ -37,15 +37,14 @@ fn line_end(dx: i32, dy: i32, on: Option<CoordPos>) -> EdgeEnd {
     EdgeEnd { dx, dy, label }
 }
 
-/// A node record: two node positions, two area positions, the ends.
-fn node(positions: [Option<CoordPos>; 4], ends: &[EdgeEnd]) -> Vec<u8> {
-    let length = 7 + 15 * ends.len() as u16;
-    let mut bytes = length.to_be_bytes().to_vec();
-    bytes.extend([1, 1]);
-    bytes.extend(positions.map(CoordPos::code));
-    bytes.push(ends.len() as u8);
-    bytes.extend(ends.iter().flat_map(|end| end.bytes()));
-    bytes
+/// The record of a node that lies as given against both geometries and both areas.
+fn node(all: CoordPos, ends: &[EdgeEnd]) -> Result<Record, Refusal> {
+    Record::node([all; 2], [Some(all); 2], ends)
+}
+
+/// P1's record.
+fn p1() -> Record {
+    node(CoordPos::OnBoundary, &four_ends()).expect("a good record")
 }
 
 /// P1's four ends: A's outline runs north and south, B's east and west.
@@ -61,7 +60,7 @@ fn four_ends() -> [EdgeEnd; 4] {
 
 #[test]
 fn p1_and_p2_a_record_and_overlaps() {
-    let record = node([B; 4], &four_ends());
+    let record = p1();
     let mut poured = START;
     assert_eq!(poured.pour_record(&record), Ok(2 + 7 + 15 * 4));
     assert_eq!(poured.to_string(), "212101212");
@@ -76,10 +75,7 @@ fn p1_and_p2_a_record_and_overlaps() {
 
     // Bytes after it don't matter; one byte too few is refusal 1, and nothing is poured.
     let mut again = START;
-    assert_eq!(
-        again.pour_record(&[record.clone(), vec![9; 40]].concat()),
-        Ok(69)
-    );
+    assert_eq!(again.pour_record(&[&record[..], &[9; 40]].concat()), Ok(69));
     assert_eq!(again, poured);
     let mut kept = START;
     assert_eq!(kept.pour_record(&record[..68]), Err(Refusal::Short));
@@ -185,10 +181,20 @@ fn points_and_what_is_no_place() {
 #[test]
 fn thirty_two_ends_pass_and_thirty_three_are_5() {
     let ends = [line_end(1, 0, I); 33];
-    for (count, answer) in [(0, Ok(9)), (32, Ok(9 + 15 * 32)), (33, Err(Refusal::Ends))] {
+    for count in [0, 32] {
+        let record = node(CoordPos::Inside, &ends[..count]).expect("a good record");
         let mut poured = START;
-        assert_eq!(poured.pour_record(&node([I; 4], &ends[..count])), answer);
+        assert_eq!(poured.pour_record(&record), Ok(9 + 15 * count));
     }
+    assert_eq!(node(CoordPos::Inside, &ends), Err(Refusal::Ends));
+    let mut longer = node(CoordPos::Inside, &ends[..32])
+        .expect("a good record")
+        .to_vec();
+    longer.extend(ends[0].bytes());
+    longer[..2].copy_from_slice(&(7u16 + 15 * 33).to_be_bytes());
+    longer[8] = 33;
+    let mut kept = START;
+    assert_eq!(kept.pour_record(&longer), Err(Refusal::Ends));
     assert_eq!(bundle(&ends), Err(Refusal::Ends));
     assert_eq!(star(&ends, None, None), Err(Refusal::Ends));
     assert_eq!(bundle(&ends[..32]).map(|label| label.b.on), Ok(I));
@@ -201,9 +207,9 @@ fn thirty_two_ends_pass_and_thirty_three_are_5() {
 
 #[test]
 fn records_are_refused_in_document_01s_order() {
-    let good = node([B; 4], &four_ends());
+    let good = p1();
     let with = |place: usize, byte: u8| {
-        let mut bytes = good.clone();
+        let mut bytes = good.to_vec();
         bytes[place] = byte;
         let mut kept = START;
         let answer = kept.pour_record(&bytes).expect_err("a damaged record");
@@ -236,7 +242,7 @@ fn an_isolated_edge_is_poured_as_it_is() {
         a: sides(B, I, E),
         b: sides(E, E, E),
     };
-    let record = [[0, 9, 1, 2].as_slice(), &label.bytes()].concat();
+    let record = Record::edge(label).expect("a good record");
     let mut poured = START;
     assert_eq!(poured.pour_record(&record), Ok(11));
     assert_eq!(poured.to_string(), "FF2FF1FF2");
@@ -317,8 +323,10 @@ fn texts_and_raising() {
 fn ends_as_bytes_are_checked_as_in_a_record() {
     let end = line_end(1, 0, I).bytes();
     assert_eq!(bundle_of_bytes(&end[..14]), Err(Refusal::Length));
-    assert_eq!(star_of_bytes(&end[..14], 4, 0), Err(Refusal::PositionCode));
-    assert_eq!(star_of_bytes(&end[..14], 0, 0), Err(Refusal::Length));
+    assert_eq!(star_of_bytes(&end[..14], 4, 0), Err(Refusal::Length));
+    assert_eq!(star_of_bytes(&end.repeat(33), 0, 4), Err(Refusal::Ends));
+    assert_eq!(star_of_bytes(&[0; 15], 0, 4), Err(Refusal::PositionCode));
+    assert_eq!(star_of_bytes(&[0; 15], 0, 0), Err(Refusal::Direction));
     let with = |place: usize, byte: u8| {
         let mut bytes = end;
         bytes[place] = byte;

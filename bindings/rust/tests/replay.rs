@@ -1,15 +1,30 @@
-//! Replays every stored answer of geo 0.33.1 and of GEOS (crates/replay/stdin, whose head says its form) through the safe
-//! wrappers. `cargo test --test replay -- --nocapture` prints how many of each kind.
+//! Replays every stored answer of geo 0.33.1, of GEOS and of document 01's rules (crates/replay/stdin, whose head says its
+//! form) through the safe wrappers. `cargo test --test replay -- --nocapture` prints how many of each kind.
 
 use std::collections::BTreeMap;
 use std::fs;
 
 use misonkandi::{
-    EdgeEnd, IntersectionMatrix, LABEL_BYTES, Label, Place, Predicate, Refusal, Verdict, relate_coded,
-    star, star_of_bytes,
+    CoordPos, END_BYTES, EdgeEnd, IntersectionMatrix, LABEL_BYTES, Label, MOST_ENDS, Place,
+    Predicate, Refusal, Verdict, bundle, bundle_of_bytes, relate_coded, star, star_of_bytes,
 };
 
 const FOLDER: &str = concat!(env!("CARGO_MANIFEST_DIR"), "/../../crates/replay/");
+
+/// What a predicate's row is where there is none. The wrappers' types leave no way to ask for it but by a name.
+const NO_SUCH_ROW: u32 = 0xFFFF_FFFF;
+
+/// A line: what a call is lent and given, and what must come of it.
+struct Case {
+    cells: [u8; 9],
+    word: u32,
+    a: u32,
+    b: u32,
+    dimension: u8,
+    given: Vec<u8>,
+    /// What must stand afterwards in what the call may write, without the zeros at its end.
+    due: Vec<u8>,
+}
 
 fn bytes_of(hex: &str) -> Vec<u8> {
     assert!(hex.is_ascii() && hex.len().is_multiple_of(2), "{hex}");
@@ -19,27 +34,51 @@ fn bytes_of(hex: &str) -> Vec<u8> {
 
 /// A number whose high byte stands first.
 fn number(bytes: &[u8]) -> u32 {
-    bytes
-        .iter()
-        .fold(0, |sum, byte| 256 * sum + u32::from(*byte))
+    let with = |sum, byte: &u8| 256 * sum + u32::from(*byte);
+    bytes.iter().fold(0, with)
 }
 
-fn nine(bytes: &[u8]) -> [u8; 9] {
-    bytes.try_into().expect("nine cells")
+impl Case {
+    fn of(hex: &str) -> Case {
+        let mut bytes = bytes_of(hex);
+        bytes.resize(bytes.len().max(24), 0);
+        let count = number(&bytes[22..24]) as usize;
+        bytes.resize(bytes.len().max(24 + count), 0);
+        Case {
+            cells: bytes[..9].try_into().expect("nine cells"),
+            word: number(&bytes[9..13]),
+            a: number(&bytes[13..17]),
+            b: number(&bytes[17..21]),
+            dimension: bytes[21],
+            given: bytes[24..24 + count].to_vec(),
+            due: bytes[24 + count..].to_vec(),
+        }
+    }
+
+    fn due<const N: usize>(&self) -> [u8; N] {
+        assert!(self.due.len() <= N, "more is due than can be written");
+        std::array::from_fn(|at| self.due.get(at).copied().unwrap_or(0))
+    }
+
+    fn matrix(&self) -> IntersectionMatrix {
+        IntersectionMatrix::from_cells(self.cells)
+    }
+
+    /// The answer's word is the one that is stored.
+    fn says(&self, answer: Result<u32, Refusal>) {
+        let refused = |refusal: Refusal| {
+            (1 << 31) + 256 * refusal.number() + refusal.place().unwrap_or(0) as u32
+        };
+        assert_eq!(answer.unwrap_or_else(refused), self.word);
+    }
+
+    /// The matrix afterwards is what is due, numbers above 3 read as 2.
+    fn leaves(&self, matrix: IntersectionMatrix) {
+        assert_eq!(matrix, IntersectionMatrix::from_cells(self.due()));
+    }
 }
 
-/// A refusal's word: 256 times its number, plus its place.
-fn word_of(refusal: Refusal) -> u32 {
-    256 * refusal.number() + refusal.place().unwrap_or(0) as u32
-}
-
-/// An accepted change is 0.
-fn changed(answer: Result<(), Refusal>) -> u32 {
-    answer.map_or_else(word_of, |()| 0)
-}
-
-/// 1 yes for good, 0 no for good, 2 open.
-fn verdict_word(verdict: Verdict) -> u32 {
+fn verdict_number(verdict: Verdict) -> u32 {
     match verdict {
         Verdict::NoForGood => 0,
         Verdict::YesForGood => 1,
@@ -47,69 +86,9 @@ fn verdict_word(verdict: Verdict) -> u32 {
     }
 }
 
-/// P, M, T, R, S, L, V and W: cells given, count of text bytes, text, answer, cells after.
-fn matrix_line(kind: char, line: &[u8]) {
-    let given = nine(&line[..9]);
-    let text = &line[10..10 + usize::from(line[9])];
-    let word = number(&line[22..24]);
-    let after = IntersectionMatrix::from_cells(nine(&line[24..33]));
-    let mut matrix = IntersectionMatrix::from_cells(given);
-    match kind {
-        'P' => {
-            let bits = |answers: &[bool]| {
-                answers
-                    .iter()
-                    .rev()
-                    .fold(0, |sum, &yes| 2 * sum + u32::from(yes))
-            };
-            assert_eq!(bits(&matrix.answers()), word);
-            assert_eq!(
-                bits(&Predicate::ALL.map(|predicate| matrix.ask(predicate))),
-                word
-            );
-            assert_eq!(bits(&by_geos_names(&matrix)), word);
-        }
-        'M' => {
-            let answer = matrix.matches_bytes(text);
-            assert_eq!(answer.map_or_else(word_of, u32::from), word);
-            if let Ok(text) = str::from_utf8(text) {
-                assert_eq!(matrix.matches(text), answer);
-            }
-        }
-        'T' => {
-            let answer = IntersectionMatrix::from_bytes(text);
-            assert_eq!(changed(answer.map(|_| ())), word);
-            matrix = answer.unwrap_or(matrix);
-            if let Ok(text) = str::from_utf8(text) {
-                assert_eq!(text.parse(), answer);
-            }
-            if let Ok(read) = answer {
-                assert_eq!(read.letters(), text);
-            }
-        }
-        'R' => assert_eq!(changed(matrix.set_at_least_from_bytes(text)), word),
-        // A number that no predicate has can't be said with types.
-        'V' => match Predicate::ALL.get(usize::from(text[0])) {
-            Some(&predicate) => assert_eq!(verdict_word(matrix.verdict(predicate)), word),
-            None => assert_eq!(word, 3),
-        },
-        'W' => {
-            let answer = matrix.verdict_of_pattern_bytes(text);
-            assert_eq!(answer.map_or_else(word_of, verdict_word), word);
-            if let Ok(text) = str::from_utf8(text) {
-                assert_eq!(matrix.verdict_of_pattern(text), answer);
-            }
-        }
-        'S' => {
-            let (a, b, dimension) = (text[0].into(), text[1].into(), text[2]);
-            assert_eq!(changed(matrix.set_coded(a, b, dimension)), word);
-        }
-        _ => {
-            let (a, b, dimension) = (text[0].into(), text[1].into(), text[2]);
-            assert_eq!(changed(matrix.set_at_least_coded(a, b, dimension)), word);
-        }
-    }
-    assert_eq!(matrix, after);
+fn bits(answers: [bool; 11]) -> u32 {
+    let with = |sum, yes: &bool| 2 * sum + u32::from(*yes);
+    answers.iter().rev().fold(0, with)
 }
 
 /// The eleven answers by geo's eleven methods.
@@ -129,68 +108,163 @@ fn by_geos_names(matrix: &IntersectionMatrix) -> [bool; 11] {
     ]
 }
 
-/// N: count of bytes, cells given, bytes, answer, cells after.
-fn record_line(line: &[u8]) {
-    let count = number(&line[..2]) as usize;
-    let mut matrix = IntersectionMatrix::from_cells(nine(&line[2..11]));
-    let answer = matrix.pour_record(&line[11..11 + count]);
-    let word = answer.map_or_else(|refusal| (1 << 31) + word_of(refusal), |used| used as u32);
-    assert_eq!(word, number(&line[75..79]));
-    assert_eq!(matrix, IntersectionMatrix::from_cells(nine(&line[79..88])));
-}
-
-/// K: number of ends, ends, area codes, answer, labels.
-fn star_line(line: &[u8]) {
-    let ends = &line[1..1 + 15 * usize::from(line[0])];
-    let (area_a, area_b) = (line[61], line[62]);
-    let answer = star_of_bytes(ends, area_a.into(), area_b.into());
-    let told = answer
-        .clone()
-        .map_or_else(word_of, |labels| labels.len() as u32);
-    assert_eq!(told, number(&line[63..67]));
-    let mut expected = [0; 28];
-    for (place, label) in answer.iter().flatten().enumerate() {
-        expected[LABEL_BYTES * place..][..LABEL_BYTES].copy_from_slice(label);
+/// P, Q, H, V: predicates, by all, by row and by name, and their verdicts.
+fn predicate_case(kind: char, case: &Case) {
+    let matrix = case.matrix();
+    if kind == 'P' {
+        case.says(Ok(bits(matrix.answers())));
+        case.says(Ok(bits(Predicate::ALL.map(|p| matrix.ask(p)))));
+        case.says(Ok(bits(by_geos_names(&matrix))));
+        return;
     }
-    assert_eq!(expected, line[67..95]);
-
-    // The same with types, where the bytes spell some.
-    let typed: Option<Vec<EdgeEnd>> = ends.chunks(15).map(end_of).collect();
-    let areas = [area_a, area_b].map(misonkandi::CoordPos::of_code);
-    if let (Some(typed), [Some(a), Some(b)]) = (typed, areas) {
-        let labels = |labels: Vec<[u8; LABEL_BYTES]>| {
-            labels
-                .into_iter()
-                .map(Label::of_bytes)
-                .collect::<Option<Vec<_>>>()
-        };
-        assert_eq!(
-            star(&typed, a, b),
-            answer.map(|bytes| labels(bytes).expect("labels"))
-        );
+    if kind == 'H' {
+        let named = str::from_utf8(&case.given).map(str::parse::<Predicate>);
+        let row = named.map_or(NO_SUCH_ROW, |parsed| {
+            parsed.map_or(NO_SUCH_ROW, Predicate::number)
+        });
+        assert_eq!(row, case.word);
+        return;
     }
-}
-
-fn end_of(bytes: &[u8]) -> Option<EdgeEnd> {
-    let end = EdgeEnd {
-        dx: number(&bytes[..4]) as i32,
-        dy: number(&bytes[4..8]) as i32,
-        label: Label::of_bytes(bytes[8..].try_into().expect("seven bytes"))?,
+    let Some(&predicate) = Predicate::ALL.get(case.a as usize) else {
+        assert_eq!(case.word, NO_SUCH_ROW);
+        return;
     };
-    assert_eq!(end.bytes(), bytes);
-    Some(end)
+    match kind {
+        'Q' => case.says(Ok(matrix.ask(predicate).into())),
+        _ => case.says(Ok(verdict_number(matrix.verdict(predicate)))),
+    }
 }
 
-/// G: two places of a kind and four coordinates, answer, cells after (nine times 9 after a refusal).
-fn place_line(line: &[u8]) {
-    let coordinates = |bytes: &[u8]| -> [f64; 4] { std::array::from_fn(|at| bytes[at].into()) };
-    let (kind_a, a) = (line[0].into(), coordinates(&line[1..5]));
-    let (kind_b, b) = (line[5].into(), coordinates(&line[6..10]));
-    let answer = relate_coded(kind_a, a, kind_b, b);
-    assert_eq!(answer.map_or_else(word_of, |_| 0), number(&line[10..12]));
-    assert_eq!(answer.map_or([9; 9], |matrix| matrix.cells()), line[12..21]);
-    if let (Some(a), Some(b)) = (place_of(kind_a, a), place_of(kind_b, b)) {
-        assert_eq!(a.relate(&b), answer);
+/// M, W, T, R: patterns and texts, as any bytes and, where they are one, as a `str`.
+fn text_case(kind: char, case: &Case) {
+    let (given, text) = (&case.given[..], str::from_utf8(&case.given).ok());
+    let mut matrix = case.matrix();
+    match kind {
+        'M' => {
+            let answer = matrix.matches_bytes(given);
+            case.says(answer.map(u32::from));
+            assert!(text.is_none_or(|text| matrix.matches(text) == answer));
+        }
+        'W' => {
+            let answer = matrix.verdict_of_pattern_bytes(given);
+            case.says(answer.map(verdict_number));
+            assert!(text.is_none_or(|text| matrix.verdict_of_pattern(text) == answer));
+        }
+        'T' => {
+            let answer = IntersectionMatrix::from_bytes(given);
+            case.says(answer.map(|_| 0));
+            case.leaves(answer.unwrap_or(matrix));
+            assert!(text.is_none_or(|text| text.parse() == answer));
+            assert!(answer.is_err() || answer.unwrap().letters() == given);
+        }
+        _ => {
+            let mut other = matrix;
+            case.says(matrix.set_at_least_from_bytes(given).map(|()| 0));
+            case.leaves(matrix);
+            if let Some(text) = text {
+                case.says(other.set_at_least_from_string(text).map(|()| 0));
+                case.leaves(other);
+            }
+        }
+    }
+}
+
+/// O, X, S, L: letters out, transposing, one cell.
+fn cell_case(kind: char, case: &Case) {
+    let mut matrix = case.matrix();
+    match kind {
+        'O' => return assert_eq!(matrix.letters(), case.due()),
+        'X' => matrix = matrix.transposed(),
+        'S' => case.says(matrix.set_coded(case.a, case.b, case.dimension).map(|()| 0)),
+        _ => {
+            let answer = matrix.set_at_least_coded(case.a, case.b, case.dimension);
+            case.says(answer.map(|()| 0));
+        }
+    }
+    case.leaves(matrix);
+}
+
+/// The ends that bytes spell, if they spell some.
+fn ends_of(bytes: &[u8]) -> Option<Vec<EdgeEnd>> {
+    let (ends, rest) = bytes.as_chunks::<END_BYTES>();
+    let end = |bytes: &[u8; END_BYTES]| {
+        let end = EdgeEnd {
+            dx: number(&bytes[..4]) as i32,
+            dy: number(&bytes[4..8]) as i32,
+            label: Label::of_bytes(bytes[8..].try_into().expect("seven bytes"))?,
+        };
+        assert_eq!(end.bytes(), *bytes);
+        Some(end)
+    };
+    rest.is_empty().then(|| ends.iter().map(end).collect())?
+}
+
+/// B, K: ends as bytes and, where the bytes spell some, with types. A refused call answers no label.
+fn ends_case(kind: char, case: &Case) {
+    let typed = ends_of(&case.given);
+    if kind == 'B' {
+        let answer = bundle_of_bytes(&case.given);
+        case.says(answer.map(|_| 0));
+        assert_eq!(answer.unwrap_or([9; LABEL_BYTES]), case.due());
+        let label = answer.map(|bytes| Label::of_bytes(bytes).expect("a label"));
+        assert!(typed.is_none_or(|ends| bundle(&ends) == label));
+        return;
+    }
+    let answer = star_of_bytes(&case.given, case.a, case.b);
+    case.says(
+        answer
+            .as_ref()
+            .map(|labels| labels.len() as u32)
+            .map_err(|&refusal| refusal),
+    );
+    let mut written = [9; LABEL_BYTES * MOST_ENDS];
+    if let Ok(labels) = &answer {
+        written.fill(0);
+        written[..LABEL_BYTES * labels.len()].copy_from_slice(labels.as_flattened());
+    }
+    assert_eq!(written, case.due());
+    let areas = [case.a, case.b].map(|code| CoordPos::of_code(code.try_into().unwrap_or(4)));
+    if let (Some(ends), [Some(a), Some(b)]) = (typed, areas) {
+        let label = |bytes: &[u8; LABEL_BYTES]| Label::of_bytes(*bytes).expect("a label");
+        let labels = answer.map(|labels| labels.iter().map(label).collect());
+        assert_eq!(star(&ends, a, b), labels);
+    }
+}
+
+/// N, D, E: a record poured, a report read, a report written.
+fn record_case(kind: char, case: &Case) {
+    let mut matrix = case.matrix();
+    match kind {
+        'N' => {
+            let answer = matrix.pour_record(&case.given);
+            case.says(answer.map(|used| used as u32));
+            case.leaves(matrix);
+        }
+        'D' => {
+            let answer = IntersectionMatrix::read_report(&case.given);
+            case.says(answer.map(|(_, used)| used as u32));
+            case.leaves(answer.map_or(matrix, |(read, _)| read));
+        }
+        _ => {
+            let mut buffer = case.given.clone();
+            let offset = u64::from(case.a) << 32 | u64::from(case.b);
+            let offset = offset.try_into().expect("a number of 64 bits");
+            let answer = matrix.write_report(&mut buffer, offset);
+            case.says(answer.map(|used| used as u32));
+            let mut due = case.due.clone();
+            due.resize(buffer.len(), 0);
+            assert_eq!(buffer, due);
+        }
+    }
+}
+
+fn coordinate(byte: u8) -> f64 {
+    match byte {
+        0xfc => -0.0,
+        0xfd => f64::NEG_INFINITY,
+        0xfe => f64::INFINITY,
+        0xff => f64::NAN,
+        whole => whole.into(),
     }
 }
 
@@ -202,18 +276,40 @@ fn place_of(kind: u32, [x, y, u, v]: [f64; 4]) -> Option<Place> {
     }
 }
 
+/// G: two places of a kind and four coordinates. A refused call answers no matrix, and the cells lent are nines.
+fn place_case(case: &Case) {
+    let mut given = case.given.clone();
+    given.resize(10, 0);
+    let place = |bytes: &[u8]| {
+        let coordinates = std::array::from_fn(|at| coordinate(bytes[1 + at]));
+        (u32::from(bytes[0]), coordinates)
+    };
+    let ((kind_a, a), (kind_b, b)) = (place(&given[..5]), place(&given[5..]));
+    let answer = relate_coded(kind_a, a, kind_b, b);
+    case.says(answer.map(|_| 0));
+    assert_eq!(
+        answer.map_or(case.cells, |matrix| matrix.cells()),
+        case.due()
+    );
+    if let (Some(a), Some(b)) = (place_of(kind_a, a), place_of(kind_b, b)) {
+        assert_eq!(a.relate(&b), answer);
+    }
+}
+
 #[test]
 fn every_stored_answer() {
     let samples = fs::read_to_string(format!("{FOLDER}stdin")).expect("the stored answers");
     let mut seen = BTreeMap::<char, usize>::new();
     for line in samples.lines().filter(|line| !line.starts_with('#')) {
         let (kind, hex) = line.split_at(1);
-        let (kind, bytes) = (kind.chars().next().expect("a letter"), bytes_of(hex));
+        let (kind, case) = (kind.chars().next().expect("a letter"), Case::of(hex));
         match kind {
-            'P' | 'M' | 'T' | 'R' | 'S' | 'L' | 'V' | 'W' => matrix_line(kind, &bytes),
-            'N' => record_line(&bytes),
-            'K' => star_line(&bytes),
-            'G' => place_line(&bytes),
+            'P' | 'Q' | 'H' | 'V' => predicate_case(kind, &case),
+            'M' | 'W' | 'T' | 'R' => text_case(kind, &case),
+            'O' | 'X' | 'S' | 'L' => cell_case(kind, &case),
+            'B' | 'K' => ends_case(kind, &case),
+            'N' | 'D' | 'E' => record_case(kind, &case),
+            'G' => place_case(&case),
             _ => panic!("no such kind of line: {line}"),
         }
         *seen.entry(kind).or_default() += 1;
@@ -221,11 +317,14 @@ fn every_stored_answer() {
     for (kind, count) in &seen {
         println!("{kind} {count:5} replayed through the wrappers");
     }
+    assert_eq!(
+        seen.len(),
+        18,
+        "a kind of line for each call of the library"
+    );
     // No line was passed over: the replay of the C interface has the same number.
     let total = format!("{} replayed, 0 differ\n", seen.values().sum::<usize>());
-    assert_eq!(
-        fs::read_to_string(format!("{FOLDER}stdout")).expect("its count"),
-        total
-    );
+    let stored = fs::read_to_string(format!("{FOLDER}stdout")).expect("its count");
+    assert_eq!(stored, total);
     print!("{total}");
 }

@@ -1,0 +1,323 @@
+/* What misonkandi.h says of words, pointers, counts and the stack, tried on the library that is linked. Every byte that
+ * is lent here stands against a page that nobody may touch: one byte too far, before or behind, ends the program. */
+#define _DEFAULT_SOURCE
+#include "misonkandi.h"
+#include <math.h>
+#include <pthread.h>
+#include <stdio.h>
+#include <stdlib.h>
+#include <string.h>
+#include <sys/mman.h>
+
+static int wrong;
+
+static void same(const char *what, unsigned long told, unsigned long meant) {
+    if (told == meant) return;
+    printf("%s: %lu, and not %lu\n", what, told, meant);
+    wrong = 1;
+}
+#define SAME(told, meant) same(#told, (unsigned long)(told), (unsigned long)(meant))
+
+/* ---- Memory ---- */
+
+enum { ROOM = 1 << 18 };
+typedef struct { uint8_t *start; } pages;
+
+/* ROOM bytes between two stretches of as many that can't be read or written. */
+static pages guarded(void) {
+    pages p;
+    uint8_t *all = mmap(NULL, 3 * ROOM, PROT_NONE, MAP_PRIVATE | MAP_ANONYMOUS, -1, 0);
+    if (all == MAP_FAILED || mprotect(all + ROOM, ROOM, PROT_READ | PROT_WRITE) != 0) {
+        puts("no memory");
+        exit(2);
+    }
+    p.start = all + ROOM;
+    return p;
+}
+
+/* Bytes copied to where the room ends, or to where it begins. */
+static uint8_t *lent(pages p, const void *bytes, size_t count, int at_end) {
+    uint8_t *place = at_end ? p.start + ROOM - count : p.start;
+    if (count > 0) memcpy(place, bytes, count);
+    return place;
+}
+
+/* ---- What is asked ---- */
+
+typedef struct {
+    uint8_t *cells, *text; /* nine bytes each; text is also a label's seven */
+    const uint8_t *bytes;
+    uint8_t *labels, *buffer;
+    size_t count;
+} lendings;
+
+typedef uint32_t call(const lendings *l);
+
+static uint32_t from_text(const lendings *l) { return misonkandi_from_text(l->cells, l->bytes, l->count); }
+static uint32_t raise_from_text(const lendings *l) { return misonkandi_raise_from_text(l->cells, l->bytes, l->count); }
+static uint32_t to_text(const lendings *l) { misonkandi_to_text(l->cells, l->text); return 0; }
+static uint32_t set(const lendings *l) { return misonkandi_set(l->cells, MISONKANDI_INSIDE, MISONKANDI_OUTSIDE, 3); }
+static uint32_t set_at_least(const lendings *l) { return misonkandi_set_at_least(l->cells, 3, 2, 200); }
+static uint32_t transpose(const lendings *l) { misonkandi_transpose(l->cells); return 0; }
+static uint32_t named(const lendings *l) { return misonkandi_predicate_named(l->bytes, l->count); }
+static uint32_t predicate(const lendings *l) { return misonkandi_predicate(l->cells, MISONKANDI_CROSSES); }
+static uint32_t predicates(const lendings *l) { return misonkandi_predicates(l->cells); }
+static uint32_t matches(const lendings *l) { return misonkandi_matches(l->cells, l->bytes, l->count); }
+static uint32_t verdict(const lendings *l) { return misonkandi_verdict(l->cells, MISONKANDI_OVERLAPS); }
+static uint32_t verdict_pattern(const lendings *l) { return misonkandi_verdict_pattern(l->cells, l->bytes, l->count); }
+static uint32_t relate(const lendings *l) {
+    return misonkandi_relate_places(MISONKANDI_BOX, 0, 0, 4, 4, MISONKANDI_BOX, 2, 2, 6, 6, l->cells);
+}
+static uint32_t bundle(const lendings *l) { return misonkandi_bundle(l->bytes, l->count, l->text); }
+static uint32_t star(const lendings *l) { return misonkandi_star(l->bytes, l->count, 1, 0, l->labels); }
+static uint32_t record(const lendings *l) { return misonkandi_record(l->cells, l->bytes, l->count); }
+static uint32_t read_report(const lendings *l) { return misonkandi_read_report(l->cells, l->bytes, l->count); }
+static uint32_t write_report(const lendings *l) { return misonkandi_write_report(l->cells, l->buffer, l->count, 0); }
+
+/* The bytes that a call is given: a text, a predicate's name, ends, a record of a node or of an edge, a report. */
+enum { NO_ROW = 8388607 }; /* MISONKANDI_NO_SUCH_ROW, read as a refusal */
+enum given { TEXT, NAME, ENDS, NODE, EDGE, REPORT };
+
+static const struct {
+    const char *name;
+    call *call;
+    enum given given;
+    uint32_t none; /* no bytes, with NULL for the pointer: the number of the refusal, or 0 for an answer */
+    int writes;    /* whether it writes cells */
+} calls[] = {
+    {"from_text", from_text, TEXT, 10, 1},
+    {"raise_from_text", raise_from_text, TEXT, 10, 1},
+    {"to_text", to_text, TEXT, 0, 0},
+    {"set", set, TEXT, 0, 1},
+    {"set_at_least", set_at_least, TEXT, 0, 1},
+    {"transpose", transpose, TEXT, 0, 1},
+    {"predicate_named", named, NAME, NO_ROW, 0},
+    {"predicate", predicate, TEXT, 0, 0},
+    {"predicates", predicates, TEXT, 0, 0},
+    {"matches", matches, TEXT, 10, 0},
+    {"verdict", verdict, TEXT, 0, 0},
+    {"verdict_pattern", verdict_pattern, TEXT, 10, 0},
+    {"relate_places", relate, TEXT, 0, 1},
+    {"bundle", bundle, ENDS, 0, 0},
+    {"star", star, ENDS, 0, 0},
+    {"record, a node", record, NODE, 1, 1},
+    {"record, an edge", record, EDGE, 1, 1},
+    {"read_report", read_report, REPORT, 1, 1},
+    {"write_report", write_report, REPORT, 12, 0},
+};
+enum { CALLS = sizeof calls / sizeof calls[0] };
+
+/* 32 ends in 32 directions, areas and lines by turns. */
+static void write_ends(uint8_t *to) {
+    static const uint8_t labels[2][7] = {{MISONKANDI_AREA, 2, 1, 3, 0, 0, 0}, {MISONKANDI_LINE, 0, 0, 0, 1, 0, 0}};
+    int k;
+    memset(to, 0, 32 * MISONKANDI_END_BYTES);
+    for (k = 0; k < 32; k++, to += MISONKANDI_END_BYTES) {
+        to[3] = (uint8_t)(1 + 7 * k % 32);
+        to[7] = (uint8_t)(32 - 7 * k % 32);
+        memcpy(to + 8, labels[k % 2], 7);
+    }
+}
+
+/* The bytes of one kind at their full length. */
+static size_t write_given(enum given given, uint8_t to[MISONKANDI_MOST_RECORD_BYTES]) {
+    static const uint8_t node[9] = {1, 231, 1, MISONKANDI_NODE, 2, 3, 1, 0, 32};
+    static const uint8_t edge[11] = {0, 9, 1, MISONKANDI_EDGE, MISONKANDI_AREA, 2, 1, 3, 2, 3, 1};
+    switch (given) {
+    case TEXT: memcpy(to, "210F21012", 9); return 9;
+    case NAME: memcpy(to, "contains_properly", 17); return 17;
+    case ENDS: write_ends(to); return 480;
+    case NODE: memcpy(to, node, 9); write_ends(to + 9); return 489;
+    case EDGE: memcpy(to, edge, 11); return 11;
+    default: memcpy(to, "\0\12\1" "210F21012", 12); return 12;
+    }
+}
+
+/* ---- Every call against pages that can't be touched ---- */
+
+static const uint8_t start[9] = MISONKANDI_START;
+
+/* One call with its bytes cut to a count, all that it is lent at the end of a room or at its beginning. */
+static uint32_t guarded_call(int k, const uint8_t *bytes, size_t count, int at_end, const pages room[5]) {
+    static const uint8_t nothing[MISONKANDI_MOST_RECORD_BYTES];
+    lendings l;
+    l.cells = lent(room[0], start, 9, at_end);
+    l.text = lent(room[1], nothing, calls[k].given == ENDS ? 7 : 9, at_end);
+    l.labels = lent(room[2], nothing, 224, at_end);
+    l.bytes = lent(room[3], bytes, count, at_end);
+    l.buffer = lent(room[4], nothing, count, at_end);
+    l.count = count;
+    return calls[k].call(&l);
+}
+
+static void all_counts(void) {
+    pages room[5];
+    uint8_t bytes[MISONKANDI_MOST_RECORD_BYTES];
+    size_t count;
+    int k;
+    for (k = 0; k < 5; k++) room[k] = guarded();
+    for (k = 0; k < CALLS; k++) {
+        size_t whole = write_given(calls[k].given, bytes);
+        for (count = 0; count <= whole; count++) {
+            uint32_t word = guarded_call(k, bytes, count, 1, room);
+            same(calls[k].name, guarded_call(k, bytes, count, 0, room), word);
+            if (count == whole) same(calls[k].name, MISONKANDI_REFUSED(word), 0);
+        }
+    }
+    for (k = 0; k < 5; k++) munmap(room[k].start - ROOM, 3 * ROOM);
+}
+
+/* NULL and no bytes: the answer, and the cells of a refused call as they were. */
+static void nulls(void) {
+    int k;
+    for (k = 0; k < CALLS; k++) {
+        uint8_t cells[9] = {9, 8, 7, 6, 5, 4, 255, 0, 3}, before[9], text[9], labels[224];
+        lendings l;
+        uint32_t word;
+        memcpy(before, cells, 9);
+        l.cells = cells, l.text = text, l.labels = labels;
+        l.bytes = NULL, l.buffer = NULL, l.count = 0;
+        word = calls[k].call(&l);
+        same(calls[k].name, MISONKANDI_REFUSED(word) ? MISONKANDI_NUMBER(word) : 0, calls[k].none);
+        if (calls[k].none != 0) same(calls[k].name, memcmp(cells, before, 9) == 0, 1);
+    }
+}
+
+/* ---- Words ---- */
+
+static void refused(uint32_t word, unsigned number, unsigned place) {
+    SAME(MISONKANDI_REFUSED(word), 1);
+    SAME(MISONKANDI_NUMBER(word), number);
+    SAME(MISONKANDI_PLACE(word), place);
+    SAME(word, 0x80000000u + 256 * number + place);
+}
+
+static const uint8_t *bytes_of(const char *text) { return (const uint8_t *)text; }
+
+/* Each number of the header from a call that gives it, and the order of misonkandi_star. */
+static void numbers(void) {
+    static const char *const names[MISONKANDI_ROWS] = {
+        "disjoint", "intersects",        "within",  "contains", "equal_topo", "coveredby",
+        "covers",   "contains_properly", "touches", "crosses",  "overlaps",
+    };
+    static const struct { int byte; uint8_t to; unsigned number; } damages[] = {
+        {0, 255, MISONKANDI_REFUSAL_SHORT},         {2, 2, MISONKANDI_REFUSAL_VERSION},
+        {3, 3, MISONKANDI_REFUSAL_KIND},            {1, 0, MISONKANDI_REFUSAL_LENGTH},
+        {8, 33, MISONKANDI_REFUSAL_ENDS},           {4, 0, MISONKANDI_REFUSAL_POSITION_CODE},
+        {7, 4, MISONKANDI_REFUSAL_POSITION_CODE},   {17, 2, MISONKANDI_REFUSAL_LABEL_KIND},
+        {17, 0, MISONKANDI_REFUSAL_LABEL_KIND},     {9, 128, MISONKANDI_REFUSAL_DIRECTION},
+        {19, 0, MISONKANDI_REFUSAL_MISSING_LEFT},
+    };
+    uint8_t cells[9] = MISONKANDI_START, bytes[33 * MISONKANDI_END_BYTES], labels[224];
+    size_t k;
+    for (k = 0; k < sizeof damages / sizeof damages[0]; k++) {
+        size_t whole = write_given(NODE, bytes);
+        bytes[damages[k].byte] = damages[k].to;
+        refused(misonkandi_record(cells, bytes, whole), damages[k].number, 0);
+    }
+    refused(misonkandi_matches(cells, bytes_of("********"), 8), MISONKANDI_REFUSAL_NOT_NINE_BYTES, 0);
+    refused(misonkandi_from_text(cells, bytes_of("FFFFFFFFf"), 9), MISONKANDI_REFUSAL_BAD_BYTE, 8);
+    refused(misonkandi_write_report(cells, bytes, 12, 1), MISONKANDI_REFUSAL_NO_ROOM, 0);
+    refused(misonkandi_relate_places(0, NAN, 0, 0, 0, 0, 0, 0, 0, 0, cells), MISONKANDI_REFUSAL_NOT_A_PLACE, 0);
+    refused(misonkandi_relate_places(2, 0, 0, 1, 1, 0, 0, 0, 0, 0, cells), MISONKANDI_REFUSAL_NOT_A_PLACE, 0);
+    refused(misonkandi_set(cells, 4, 0, 0), MISONKANDI_REFUSAL_POSITION_CODE, 0);
+
+    write_given(ENDS, bytes);
+    refused(misonkandi_star(bytes, 14, 4, 0, labels), MISONKANDI_REFUSAL_LENGTH, 0);
+    refused(misonkandi_star(bytes, 33 * 15, 4, 0, labels), MISONKANDI_REFUSAL_ENDS, 0);
+    bytes[8] = 2;
+    refused(misonkandi_star(bytes, 15, 0, 4, labels), MISONKANDI_REFUSAL_POSITION_CODE, 0);
+    refused(misonkandi_star(bytes, 15, 0, 0, labels), MISONKANDI_REFUSAL_LABEL_KIND, 0);
+
+    for (k = 0; k < MISONKANDI_ROWS; k++) SAME(misonkandi_predicate_named(bytes_of(names[k]), strlen(names[k])), k);
+    SAME(misonkandi_predicate_named(bytes_of("touch"), 5), MISONKANDI_NO_SUCH_ROW);
+    SAME(misonkandi_predicate_named(bytes_of("Touches"), 7), MISONKANDI_NO_SUCH_ROW);
+    SAME(misonkandi_predicate(cells, MISONKANDI_ROWS), MISONKANDI_NO_SUCH_ROW);
+    SAME(misonkandi_verdict(cells, MISONKANDI_ROWS), MISONKANDI_NO_SUCH_ROW);
+    SAME(misonkandi_predicate(cells, 0xFFFFFFFFu), MISONKANDI_NO_SUCH_ROW);
+    SAME(MISONKANDI_REFUSED(MISONKANDI_NO_SUCH_ROW), 1);
+    SAME(MISONKANDI_NUMBER(MISONKANDI_NO_SUCH_ROW), 8388607);
+}
+
+/* Cells above 3: read as 2, written as 3 by every accepted call that writes cells, and left by a refused one. */
+static void larger(void) {
+    int k;
+    for (k = 0; k < CALLS; k++) {
+        uint8_t cells[9], text[9], labels[224], bytes[MISONKANDI_MOST_RECORD_BYTES], buffer[12];
+        int at;
+        lendings l;
+        memset(cells, 250, 9);
+        l.cells = cells, l.text = text, l.labels = labels, l.buffer = buffer, l.bytes = bytes;
+        l.count = write_given(calls[k].given, bytes);
+        calls[k].call(&l);
+        for (at = 0; at < 9; at++) same(calls[k].name, cells[at] <= 3, (unsigned long)calls[k].writes);
+    }
+    {
+        uint8_t cells[9] = MISONKANDI_START;
+        misonkandi_set(cells, MISONKANDI_ON_BOUNDARY, MISONKANDI_OUTSIDE, 4);
+        SAME(cells[MISONKANDI_BE], MISONKANDI_DIMENSION_2);
+    }
+}
+
+/* ---- The stack ---- */
+
+enum { PAINT = 0xA5 };
+typedef struct { int k; lendings l; uint8_t *from; } painted_call;
+
+/* The frames of what is called lie below this one's. */
+static void *run(void *given) {
+    painted_call *p = given;
+    p->from = __builtin_frame_address(0);
+    calls[p->k].call(&p->l);
+    return NULL;
+}
+
+/* How many bytes below its caller's frame a call has written to, on a thread with a painted stack. */
+static size_t depth(int k, const lendings *l) {
+    pages room = guarded();
+    painted_call p;
+    pthread_attr_t how;
+    pthread_t thread;
+    size_t clean = 0;
+    p.k = k, p.l = *l, p.from = room.start;
+    memset(room.start, PAINT, ROOM);
+    pthread_attr_init(&how);
+    if (pthread_attr_setstack(&how, room.start, ROOM) != 0 || pthread_create(&thread, &how, run, &p) != 0) {
+        puts("no thread");
+        exit(2);
+    }
+    pthread_join(thread, NULL);
+    while (room.start[clean] == PAINT) clean++;
+    munmap(room.start - ROOM, 3 * ROOM);
+    return (size_t)(p.from - room.start) - clean;
+}
+
+static void stack(void) {
+    uint8_t cells[9] = MISONKANDI_START, text[9], labels[224], bytes[MISONKANDI_MOST_RECORD_BYTES], buffer[12];
+    size_t deepest = 0, here;
+    int k, which = 0;
+    lendings l;
+    l.cells = cells, l.text = text, l.labels = labels, l.buffer = buffer, l.bytes = bytes;
+    l.count = write_given(calls[0].given, bytes);
+    depth(0, &l); /* the first thread of a program has more to do than the next */
+    for (k = 0; k < CALLS; k++) {
+        memcpy(cells, start, 9);
+        l.count = write_given(calls[k].given, bytes);
+        here = depth(k, &l);
+        printf("%-16s %4lu bytes of stack\n", calls[k].name, (unsigned long)here);
+        if (here > deepest) deepest = here, which = k;
+        if (calls[k].given < ENDS || calls[k].given == REPORT) same(calls[k].name, here < 256, 1);
+    }
+    printf("deepest: %s\n", calls[which].name);
+    SAME(deepest < MISONKANDI_STACK_BYTES, 1);
+}
+
+int main(void) {
+    all_counts();
+    nulls();
+    numbers();
+    larger();
+    stack();
+    puts(wrong ? "the header is wrong" : "the library does what the header says at its edges");
+    return wrong;
+}
