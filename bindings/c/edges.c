@@ -217,6 +217,9 @@ static void numbers(void) {
     }
     refused(misonkandi_matches(cells, bytes_of("********"), 8), MISONKANDI_REFUSAL_NOT_NINE_BYTES, 0);
     refused(misonkandi_from_text(cells, bytes_of("FFFFFFFFf"), 9), MISONKANDI_REFUSAL_BAD_BYTE, 8);
+    refused(misonkandi_matches(cells, bytes_of("T*X******"), 9), MISONKANDI_REFUSAL_BAD_BYTE, 2); /* T disagrees */
+    refused(misonkandi_matches(cells, bytes_of("FFFFFFFFX"), 9), MISONKANDI_REFUSAL_BAD_BYTE, 8); /* each F agrees */
+    refused(misonkandi_matches(cells, bytes_of("XTTTTTTTX"), 9), MISONKANDI_REFUSAL_BAD_BYTE, 0);
     refused(misonkandi_write_report(cells, bytes, 12, 1), MISONKANDI_REFUSAL_NO_ROOM, 0);
     refused(misonkandi_relate_places(0, NAN, 0, 0, 0, 0, 0, 0, 0, 0, cells), MISONKANDI_REFUSAL_NOT_A_PLACE, 0);
     refused(misonkandi_relate_places(2, 0, 0, 1, 1, 0, 0, 0, 0, 0, cells), MISONKANDI_REFUSAL_NOT_A_PLACE, 0);

@@ -162,8 +162,8 @@ uint32_t misonkandi_predicate(const uint8_t cells[9], uint32_t row);
 /* All eleven answers: bit k, 1 << k, is row k's. */
 uint32_t misonkandi_predicates(const uint8_t cells[9]);
 
-/* Whether the matrix matches a pattern: 1 yes, 0 no, or a refusal. The cells are walked in order and the first that
- * disagrees gives no, even if a later byte is bad: refusal 11 is for a bad byte that is reached. 10 comes first. */
+/* Whether the matrix matches a pattern: 1 if every cell agrees with its byte, else 0; or refusal 10, or 11. The whole
+ * pattern is checked before any cell is looked at, so a bad byte is refused whatever the cells are. */
 uint32_t misonkandi_matches(const uint8_t cells[9], const uint8_t *pattern, size_t count);
 
 /* ---- Early verdicts ----

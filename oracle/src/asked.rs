@@ -5,6 +5,7 @@ use crate::coordinate_position::CoordPos;
 use crate::dimensions::Dimensions;
 use crate::ours::{Call, Op};
 use crate::relate::geomgraph::intersection_matrix::IntersectionMatrix;
+use crate::relate::geomgraph::intersection_matrix::dimension_matcher::DimensionMatcher;
 use crate::rule;
 use std::cell::Cell;
 use std::panic::{AssertUnwindSafe, catch_unwind, set_hook, take_hook};
@@ -112,6 +113,12 @@ fn matches(call: &Call) -> Option<Said> {
     };
     let nine = Some(cells(&matrix));
     Some(Said { answer, nine })
+}
+
+/// The byte at which a pattern's first letter stands that isn't one of the crate's.
+pub fn first_bad_letter(pattern: &str) -> Option<usize> {
+    let bad = |letter: char| DimensionMatcher::try_from(letter).is_err();
+    pattern.find(bad)
 }
 
 /// A refused text leaves no matrix.

@@ -3,7 +3,6 @@
 use crate::asked::{self, Answer, Said};
 use crate::ours::Call;
 use crate::pieces::{MATRICES, matrix_by_number, number_of_matrix};
-use crate::relate::geomgraph::intersection_matrix::dimension_matcher::DimensionMatcher;
 use crate::rule;
 use crate::rule_verdict::{Ahead, Bits};
 use std::sync::OnceLock;
@@ -58,8 +57,7 @@ pub fn pattern(call: &Call) -> Option<Said> {
 /// The crate's `matches` on every matrix that is at least as large in all cells, or None for a pattern that isn't nine
 /// letters of the crate's.
 fn verdict_of(pattern: &str, cells: [u8; 9]) -> Option<u32> {
-    let good = |letter| DimensionMatcher::try_from(letter).is_ok();
-    if pattern.len() != 9 || !pattern.chars().all(good) {
+    if pattern.len() != 9 || asked::first_bad_letter(pattern).is_some() {
         return None;
     }
     let mut matrix = asked::matrix(&cells);

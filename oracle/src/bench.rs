@@ -14,6 +14,7 @@ use crate::relate::geomgraph::intersection_matrix::IntersectionMatrix;
 use crate::rule;
 use crate::rule_verdict;
 use std::hint::black_box;
+use std::rc::Rc;
 use std::str::FromStr;
 use std::time::Instant;
 
@@ -45,17 +46,20 @@ mod linked {
 }
 
 const SEED: u64 = 1;
+const ROOMS_SEED: u64 = 7;
+/// Letters of all six meanings.
+const MIXED: &str = "T*F0*1t*2";
 /// So many inputs, gone through in order, that no branch can be learnt by heart. With 4096 a processor still learns
 /// part of them, and then each side's time hangs on how often the other one's turn comes.
 const INPUTS: usize = 32768;
 const PASSES: usize = 3;
 const ROUNDS: usize = 60;
 
-/// One matrix as both sides keep it, and one text.
+/// One matrix as both sides keep it, and one text, which many inputs may share.
 struct Input {
     matrix: IntersectionMatrix,
     cells: [u8; 9],
-    text: String,
+    text: Rc<str>,
 }
 
 /// The best of the rounds so far, in nanoseconds for one call.
@@ -113,13 +117,45 @@ fn inputs(
 ) -> Vec<Input> {
     let mut input = |_| {
         let cells = random.cells();
+        let text = text(random, &cells);
         Input {
             matrix: asked::matrix(&cells),
             cells,
-            text: String::from_utf8(text(random, &cells).to_vec()).expect("letters are ASCII"),
+            text: str::from_utf8(&text).expect("letters are ASCII").into(),
         }
     };
     (0..INPUTS).map(&mut input).collect()
+}
+
+/// One pattern for many rooms, as a gateway asks it: the pattern's bytes are the same ones at every call.
+fn rooms(
+    random: &mut Random,
+    pattern: &str,
+    mut cells: impl FnMut(&mut Random) -> [u8; 9],
+) -> Vec<Input> {
+    let text: Rc<str> = pattern.into();
+    let mut input = |_| {
+        let cells = cells(random);
+        Input {
+            matrix: asked::matrix(&cells),
+            cells,
+            text: Rc::clone(&text),
+        }
+    };
+    (0..INPUTS).map(&mut input).collect()
+}
+
+/// A random matrix in which every cell agrees with the pattern.
+fn agreeing_cells(random: &mut Random, pattern: &str) -> [u8; 9] {
+    let bytes = pattern.as_bytes();
+    std::array::from_fn(|place| {
+        loop {
+            let cell = random.below(4) as u8;
+            if rule::agrees(bytes[place], cell) == Some(true) {
+                return cell;
+            }
+        }
+    })
 }
 
 /// A pattern that agrees before `place` and disagrees there.
@@ -137,6 +173,21 @@ fn measure_matches(name: &str, inputs: &[Input]) {
         |input| linked::matches(&input.cells, input.text.as_bytes()),
         |input| rule::matches(&input.cells, input.text.as_bytes()),
     );
+}
+
+/// Draws from a generator of its own, so that the lines below it have the inputs that they had without it.
+fn measure_one_pattern() {
+    let random = &mut Random::new(ROOMS_SEED);
+    for pattern in ["FFFFFFFFF", "TTTTTTTTT", MIXED] {
+        let inputs = rooms(random, pattern, Random::cells);
+        let name = format!("`matches`, one pattern of many rooms, `{pattern}`");
+        measure_matches(&name, &inputs);
+    }
+    for pattern in ["*********", MIXED] {
+        let inputs = rooms(random, pattern, |random| agreeing_cells(random, pattern));
+        let name = format!("`matches`, one pattern of many rooms that all agree, `{pattern}`");
+        measure_matches(&name, &inputs);
+    }
 }
 
 fn measure_predicates(name: &str, inputs: &[Input]) {
@@ -226,6 +277,7 @@ pub fn main() {
     measure_matches("`matches`, agrees in nine cells", &agrees);
     let any = inputs(random, |random, _| good_pattern(random));
     measure_matches("`matches`, random good patterns", &any);
+    measure_one_pattern();
     measure_predicates("all eleven predicates of one matrix", &any);
     measure_verdicts(
         "verdicts of all eleven predicates, beside the crate's eleven answers",

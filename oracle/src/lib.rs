@@ -31,6 +31,7 @@ mod asked;
 mod asked_star;
 mod asked_verdict;
 mod bench_plans;
+mod listed;
 mod ours;
 mod pieces;
 mod plan_pieces;

@@ -1,8 +1,8 @@
-//! Document 01's own rules, written down plainly and apart from the crate.
+//! Document 01's own rules, written down plainly and apart from the crate; `matches` by request R-5 of document 02.
 //!
 //! The crate answers no number and no place for a refusal, and can't be asked at all about bytes that aren't UTF-8,
 //! about a none in `set`, about codes above 3 or about transposing. There these rules decide; elsewhere they are held
-//! to the crate's answers like ours.
+//! to the crate's answers like ours, but for the differences of `listed.rs`.
 
 use crate::ours::{Call, Op};
 use crate::rule_verdict;
@@ -112,18 +112,23 @@ pub fn agrees(byte: u8, dimension: u8) -> Option<bool> {
     }
 }
 
-pub fn matches(cells: &[u8; 9], pattern: &[u8]) -> u32 {
+/// Why a pattern is refused, whatever the matrix: "10, then 11", with the first bad byte's place.
+pub fn pattern_refusal(pattern: &[u8]) -> Option<u32> {
     if pattern.len() != 9 {
-        return NOT_NINE;
+        return Some(NOT_NINE);
     }
-    for (place, (byte, dimension)) in pattern.iter().zip(read(cells)).enumerate() {
-        match agrees(*byte, dimension) {
-            None => return BAD_BYTE + place as u32,
-            Some(false) => return 0,
-            Some(true) => {}
-        }
+    let bad = |byte: &u8| agrees(*byte, 0).is_none();
+    let place = pattern.iter().position(bad)?;
+    Some(BAD_BYTE + place as u32)
+}
+
+/// "`matches` looks at all nine bytes before it compares": then yes exactly when every cell agrees.
+pub fn matches(cells: &[u8; 9], pattern: &[u8]) -> u32 {
+    if let Some(refusal) = pattern_refusal(pattern) {
+        return refusal;
     }
-    1
+    let mut pairs = pattern.iter().zip(read(cells));
+    u32::from(pairs.all(|(byte, dimension)| agrees(*byte, dimension) == Some(true)))
 }
 
 /// The nine letters of a matrix.

@@ -4,7 +4,7 @@
 //! still come is every matrix with all cells at least as large.
 
 use crate::pieces::{MATRICES, matrix_by_number, number_of_matrix};
-use crate::rule::{self, BAD_BYTE, NO_SUCH_ROW, NOT_NINE};
+use crate::rule::{self, NO_SUCH_ROW};
 use std::sync::OnceLock;
 
 pub const NO_FOR_GOOD: u32 = 0;
@@ -93,12 +93,8 @@ fn see_all_from(answers: &[u32], number: usize, place: usize, bits: &mut Bits) {
 /// The pattern is checked whole. Each cell rises for itself, so all can come to agree if each can, and all will stay so
 /// if each will.
 pub fn pattern(cells: &[u8; 9], pattern: &[u8]) -> u32 {
-    if pattern.len() != 9 {
-        return NOT_NINE;
-    }
-    let bad = |byte: &u8| rule::agrees(*byte, 0).is_none();
-    if let Some(place) = pattern.iter().position(bad) {
-        return BAD_BYTE + place as u32;
+    if let Some(refusal) = rule::pattern_refusal(pattern) {
+        return refusal;
     }
     let mut ahead = Ahead {
         yes: true,

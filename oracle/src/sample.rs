@@ -1,9 +1,10 @@
 //! A sample of the crate's answers as lines of text, for a small program that replays them without Rust.
 //!
 //! Our library isn't asked. Numbers and places of refusals are document 01's, since the crate has none; where the crate
-//! can't be asked, document 01's rules alone answer, and the head of the file says so.
+//! can't be asked, or its answer is a listed difference, the rules alone answer, and the head of the file says so.
 
 use crate::asked::{self, Said};
+use crate::listed;
 use crate::ours::{Call, Op};
 use crate::pieces::{
     PATTERN_LETTERS, SEVERAL_BYTES, TEXT_LETTERS, agreeing_pattern, disagreeing, good_pattern,
@@ -45,6 +46,8 @@ const HEAD: &str = "\
 # P to L: the answers of geo 0.33.1's intersection_matrix.rs, compiled unchanged. Document 01's rules (oracle/src/rule.rs)
 # alone answer what the crate can't be asked: X, H, a row above 10, bytes that aren't UTF-8, S with a none, codes above 3;
 # and where a raising is refused the cells after are those given, where the crate keeps the cells already raised.
+# M: the crate's answer to a wholly good pattern. To a bad one request R-5's, in oracle/src/rule.rs: refused whatever the
+# cells, where the crate says no if a cell before the bad byte disagrees.
 ";
 
 pub fn main() {
@@ -129,7 +132,7 @@ fn matches(random: &mut Random) -> Vec<Call> {
     calls
 }
 
-/// A bad byte at each place, reached, and behind a cell that disagrees; then characters of several bytes.
+/// A bad byte at each place, all else agreeing, and behind a cell that disagrees; then characters of several bytes.
 fn matches_with_a_bad_byte(random: &mut Random) -> Vec<Call> {
     let mut calls = Vec::new();
     let mut add = |cells: [u8; 9], mut pattern: [u8; 9], place: usize, random: &mut Random| {
@@ -338,28 +341,26 @@ fn not_utf_8(random: &mut Random) -> Vec<Call> {
     calls
 }
 
-/// Document 01's answer, which the crate's must agree with if it can be asked.
+/// The rule's answer, which the crate's must agree with if it can be asked, but for the listed differences.
 fn answer(call: &Call) -> Outcome {
     let due = rule::outcome(call);
     if let Some(said) = asked::said(call) {
+        let listed = listed::difference(call, &due, &said).is_some();
         assert!(
-            agrees(call, &due, &said),
+            listed || agrees(call, &due, &said),
             "the crate and document 01 differ: {call:?}"
         );
     }
     due
 }
 
-/// A refused raising is the one case whose cells afterwards differ.
 fn agrees(call: &Call, due: &Outcome, said: &Said) -> bool {
-    let refused_raising = call.op == Op::Raise && rule::refuses(due.word);
     let due_nine = if call.op == Op::ToText {
         due.nine
     } else {
         rule::read(&due.nine)
     };
-    let same_nine = said.nine.is_none_or(|nine| nine == due_nine);
-    said.answer.agrees_with(due.word) && (same_nine || refused_raising)
+    said.answer.agrees_with(due.word) && said.nine.is_none_or(|nine| nine == due_nine)
 }
 
 /// The letter of a call, and whether it may write nine bytes.

@@ -15,14 +15,15 @@
 //! assert_eq!(matrix.to_string(), "F0FFFFFF2");
 //! assert!(matrix.is_touches());
 //! assert_eq!(matrix.matches("*0*******"), Ok(true));
-//! assert_eq!(matrix.matches("*0X******"), Err(Refusal::BadByte(2))); // refusal 11 at place 2
+//! assert_eq!(matrix.matches("T0X******"), Err(Refusal::BadByte(2))); // refusal 11 at place 2, on every matrix
 //! let yes = Predicate::ALL.into_iter().filter(|&p| matrix.ask(p)).map(Predicate::name);
 //! assert_eq!(yes.collect::<Vec<_>>(), ["intersects", "coveredby", "covers", "touches"]);
 //! # Ok::<(), Refusal>(())
 //! ```
 //!
-//! What differs from geo: a refusal is a number and a place, not a text; raising from text is all or nothing; `set`,
-//! `set_at_least` and their kin are public. docs/DIFFERENCES.md has the list, and what was run to know it.
+//! What differs from geo: a refusal is a number and a place, not a text; a bad letter of a pattern is refused on every
+//! matrix; raising from text is all or nothing; `set`, `set_at_least` and their kin are public. docs/DIFFERENCES.md has the
+//! list, and what was run to know it.
 //!
 //! The crate needs no `std`. Its feature `alloc`, on by default, is for [`star`] and [`star_of_bytes`], which answer a list.
 #![no_std]

@@ -160,12 +160,21 @@ impl IntersectionMatrix {
         IntersectionMatrix { cells }
     }
 
-    /// Whether the matrix matches a pattern of nine letters: `*` anything, `T` or `t` not F, `F` or `f` F, `0`, `1`, `2` that
-    /// dimension. As in geo: the cells are walked in order, and the first that disagrees gives no, even if a later letter
-    /// is bad.
+    /// Whether every cell agrees with its letter of a pattern: `*` anything, `T` or `t` not F, `F` or `f` F, `0`, `1`, `2` that
+    /// dimension. As in geo for every pattern of nine good letters. The pattern is checked whole before any cell is looked
+    /// at, so a bad letter is refused on every matrix; geo says no if a cell before it disagrees (docs/DIFFERENCES.md).
     ///
-    /// Refused: 10 for another count of bytes; 11 for a bad byte that is reached, with its place. Promised: `matchesOf`,
+    /// Refused: 10 for another count of bytes; 11 with the first bad byte's place. Promised: `matchesOf`,
     /// crates/de9im/specs/Patterns.antt.
+    ///
+    /// ```
+    /// use misonkandi::{IntersectionMatrix, Refusal};
+    ///
+    /// let matrix = IntersectionMatrix::empty_disjoint(); // FFFFFFFF2
+    /// assert_eq!(matrix.matches("F*F******"), Ok(true));
+    /// assert_eq!(matrix.matches("T*F******"), Ok(false));
+    /// assert_eq!(matrix.matches("T*X******"), Err(Refusal::BadByte(2))); // geo: Ok(false)
+    /// ```
     pub fn matches(&self, spec: &str) -> Result<bool, Refusal> {
         self.matches_bytes(spec.as_bytes())
     }

@@ -1,4 +1,4 @@
-//! Document 01's examples P1 to P14 and its edges, through the safe wrappers.
+//! Document 01's examples P1 to P14 and its edges, through the safe wrappers; P5 as request R-5 has it.
 
 use misonkandi::{
     CoordPos, Dimensions, EdgeEnd, IntersectionMatrix, Label, Place, Predicate, REPORT_BYTES,
@@ -89,14 +89,38 @@ fn p3_and_p4_equal_topo() {
 }
 
 #[test]
-fn p5_and_p6_a_bad_byte_reached_and_not() {
-    assert_eq!(START.matches("T*X******"), Ok(false));
-    let refusal = matrix("212101212")
-        .matches("T*X******")
-        .expect_err("a bad byte");
-    assert_eq!(refusal, Refusal::BadByte(2));
-    assert_eq!((refusal.number(), refusal.place()), (11, Some(2)));
-    assert_eq!(refusal.to_string(), "refused 11 at 2: bad byte");
+fn p5_and_p6_a_bad_byte_is_always_refused() {
+    for matrix in [START, matrix("212101212")] {
+        let refusal = matrix.matches("T*X******").expect_err("a bad byte");
+        assert_eq!(refusal, Refusal::BadByte(2));
+        assert_eq!((refusal.number(), refusal.place()), (11, Some(2)));
+        assert_eq!(refusal.to_string(), "refused 11 at 2: bad byte");
+    }
+}
+
+/// Every bad byte at every place of FFFFFFFF2. With `*` all other cells agree; with `T` the first eight don't; with `F` only
+/// the last doesn't.
+#[test]
+fn a_bad_byte_is_refused_whatever_the_other_cells_say() {
+    let good = b"*TtFf012";
+    for place in 0..9 {
+        for byte in (0..=255).filter(|byte| !good.contains(byte)) {
+            for other in *b"*TF" {
+                let mut pattern = [other; 9];
+                pattern[place] = byte;
+                let refused = Err(Refusal::BadByte(place));
+                assert_eq!(START.matches_bytes(&pattern), refused);
+            }
+        }
+    }
+}
+
+/// Of several bad bytes the first is told, and the count of bytes is looked at before them.
+#[test]
+fn the_first_bad_byte_and_the_count() {
+    assert_eq!(START.matches("TTTTXTTTY"), Err(Refusal::BadByte(4)));
+    assert_eq!(START.matches("XXXXXXXX"), Err(Refusal::NotNineBytes));
+    assert_eq!(START.matches("TTTTTTTTTX"), Err(Refusal::NotNineBytes));
 }
 
 #[test]

@@ -1,5 +1,5 @@
 -- "with the first one's place, 0 to 8": the place of a bad byte of a text or a pattern is below 9. Assumes nothing.
-use Prim.Native.Nat.{ℕ, suc, _+_, _≤_, _<_}
+use Prim.Native.Nat.{ℕ, suc, _+_, _<_}
 use mathlib.Core.Path.{_≡_, refl, sym, subst}
 use mathlib.Core.Bool.{Bool, true, false, cond}
 use mathlib.Core.List.{List, [], _∷_}
@@ -7,17 +7,15 @@ use native.Mathlib.Omega.{arith}
 use borrow.Author.Tests.{eqb-true}
 use lib.Dec.{eqb}
 use lib.ListN.{length}
-use Rattle.de9im.specs.declared.«dimension_matcher».Letter.{Letter}
-use Rattle.de9im.specs.declared.«dimension_matcher».Letter.the-variants as L
-use Rattle.de9im.specs.declared.patterns.Matched.{Matched}
-use Rattle.de9im.specs.declared.patterns.Matched.the-variants.{No}
+use Rattle.de9im.specs.declared.answer.Checked.{Checked}
+use Rattle.de9im.specs.declared.answer.Checked.the-variants as C
 use Rattle.de9im.specs.declared.refusal.Spot.{Spot}
 use Rattle.de9im.specs.declared.refusal.Spot.the-variants.{Nowhere, At}
 use Rattle.de9im.specs.Answers.{checkedPlace, matchedPlace, textPlace}
 use Rattle.de9im.specs.Cells.{cellsOf}
-use Rattle.de9im.specs.Letters.{letterOf, agreeOf}
+use Rattle.de9im.specs.Letters.{goodLetter}
 use Rattle.de9im.specs.Matrix.{Matrix}
-use Rattle.de9im.specs.Patterns.{atCell, walk, matchesOf}
+use Rattle.de9im.specs.Patterns.{byBad, checkOf, agreeAll, matchedBy, matchesOf}
 use Rattle.de9im.specs.Refused.{spotNo}
 use Rattle.de9im.specs.Text.{firstBad, goodByte, readOf, raisedFrom}
 use Rattle.de9im.proofs.LawsNumbers.{read-place, raised-place}
@@ -58,27 +56,23 @@ pub raised-near : (ns t : List ℕ) → spotNo (checkedPlace (raisedFrom ns t .a
 raised-near ns t = subst (λ s. spotNo s < 9) (sym (raised-place t ns)) (text-near t)
 
 -- and of a pattern
-pick-near : (t : Bool) (a b : Matched) → spotNo (matchedPlace a) < 9 → spotNo (matchedPlace b) < 9
-    → spotNo (matchedPlace (cond t a b)) < 9
-pick-near true a b h i = h
-pick-near false a b h i = i
+spot-place : (s : Spot) → checkedPlace (byBad s) ≡ s
+spot-place Nowhere = refl
+spot-place (At k) = refl
 
-cell-near : (l : Letter) (k n : ℕ) (rest : Matched) → k < 9 → spotNo (matchedPlace rest) < 9
-    → spotNo (matchedPlace (atCell l k n rest)) < 9
-cell-near L.Bad k n rest h i = h
-cell-near (L.Good w) k n rest h i = pick-near (agreeOf w n) rest No i (omega arith)
+check-by : (t : Bool) (p : List ℕ) → eqb (length p) 9 ≡ t → spotNo (checkedPlace (checkOf p)) < 9
+unfolding checkOf
+check-by true p e = rw (e, spot-place (firstBad goodLetter 0 p)) (bad-of-nine goodLetter p (eqb-true (length p) 9 e))
+check-by false p e = rw e (omega arith)
 
-walk-near : (k : ℕ) (bs ns : List ℕ) → k + length bs ≤ 9 → spotNo (matchedPlace (walk k bs ns)) < 9
-unfolding walk
-walk-near k [] ns h = omega arith
-walk-near k (b ∷ bs) [] h = omega arith
-walk-near k (b ∷ bs) (n ∷ ns) h =
-    cell-near (letterOf b) k n (walk (suc k) bs ns) (omega arith) (walk-near (suc k) bs ns (omega arith))
+pub check-near : (p : List ℕ) → spotNo (checkedPlace (checkOf p)) < 9
+check-near p = check-by (eqb (length p) 9) p refl
 
-matched-by : (t : Bool) (m : Matrix) (p : List ℕ) → eqb (length p) 9 ≡ t → spotNo (matchedPlace (matchesOf m p)) < 9
-unfolding matchesOf
-matched-by true m p e = rw e (walk-near 0 p (cellsOf m) (omega (arith, eqb-true (length p) 9 e)))
-matched-by false m p e = rw e (omega arith)
+matched-place : (x : Checked) (t : Bool) → matchedPlace (matchedBy x t) ≡ checkedPlace x
+matched-place C.Fine true = refl
+matched-place C.Fine false = refl
+matched-place (C.Refused r) t = refl
 
 pub matched-near : (m : Matrix) (p : List ℕ) → spotNo (matchedPlace (matchesOf m p)) < 9
-matched-near m p = matched-by (eqb (length p) 9) m p refl
+unfolding matchesOf
+matched-near m p = subst (λ s. spotNo s < 9) (sym (matched-place (checkOf p) (agreeAll p (cellsOf m)))) (check-near p)

@@ -4,9 +4,9 @@ pub mod LawsBool
 pub mod LawsDimension
 pub mod LawsPosition
 pub mod LawsMatrix
+pub mod LawsForms
 pub mod LawsLetters
 pub mod LawsPatterns
-pub mod LawsForms
 pub mod LawsMatches
 pub mod LawsText
 pub mod LawsRoundTrip

@@ -13,6 +13,7 @@ use Rattle.de9im.specs.declared.patterns.Matched.{Matched}
 use Rattle.de9im.specs.declared.patterns.Matched.the-variants as M
 use Rattle.de9im.specs.declared.refusal.Spot.{Spot}
 use Rattle.de9im.specs.declared.refusal.Spot.the-variants.{Nowhere, At}
+use Rattle.de9im.specs.Letters.{goodLetter}
 use Rattle.de9im.specs.Refused.{numberOf, placeOf}
 use Rattle.de9im.specs.Text.{firstBad, goodByte}
 
@@ -57,3 +58,10 @@ textNo t = cond (eqb (length t) 9) (badNo (firstBad goodByte 0 t)) 10
 
 abbrev pub textPlace : List ℕ → Spot
 textPlace t = cond (eqb (length t) 9) (firstBad goodByte 0 t) Nowhere
+
+-- and of a pattern: "10, then 11, whatever the matrix"
+abbrev pub patternNo : List ℕ → ℕ
+patternNo p = cond (eqb (length p) 9) (badNo (firstBad goodLetter 0 p)) 10
+
+abbrev pub patternPlace : List ℕ → Spot
+patternPlace p = cond (eqb (length p) 9) (firstBad goodLetter 0 p) Nowhere

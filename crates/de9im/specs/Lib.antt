@@ -6,6 +6,7 @@ pub mod Matrix
 pub mod Cells
 pub mod Bytes
 pub mod Letters
-pub mod Patterns
 pub mod Text
+pub mod Patterns
 pub mod Answers
+pub mod Inner

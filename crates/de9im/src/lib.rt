@@ -6,6 +6,7 @@ pub mod coordinate_position;
 pub mod dimension_matcher;
 pub mod dimensions;
 pub mod intersection_matrix;
+pub(crate) mod nine;
 pub mod patterns;
 pub mod refusal;
 pub mod text;

@@ -1,19 +1,18 @@
 -- No word cuts what it says: every refusal that a call hands on has no place, or one below 9. Assumes nothing.
 use Prim.Native.Nat.{ℕ, _<_}
-use mathlib.Core.Path.{_≡_, refl}
+use mathlib.Core.Path.{_≡_, refl, subst}
 use mathlib.Core.List.{List}
 use native.Mathlib.Omega.{arith}
-use Rattle.de9im.specs.declared.refusal.Refusal.{Refusal}
 use Rattle.de9im.specs.declared.refusal.Spot.{Spot}
 use Rattle.de9im.specs.declared.refusal.Spot.the-variants.{Nowhere}
 use Rattle.de9im.specs.Answers.{checkedPlace}
 use Rattle.de9im.specs.Refused.{spotNo}
-use Rattle.de9im.proofs.LawsNear.{bad-within}
+use Rattle.de9im.proofs.LawsNear.{check-near}
 use Rattle.place.proofs.LawsRelate.{relate-place}
 use Rattle.verdict.specs.declared.pattern.Judged.{Judged}
 use Rattle.verdict.specs.declared.pattern.Judged.the-variants as J
 use Rattle.verdict.specs.Answers.{judgedPlace}
-use Rattle.verdict.specs.Judges.{goodLetter, Refuses, not-nine, bad-byte, Judges}
+use Rattle.verdict.specs.Judges.{Judges}
 use Rattle.misonkandi.specs.declared.places.Kinded.{Kinded}
 use Rattle.misonkandi.specs.declared.places.Kinded.the-variants as K
 use Rattle.misonkandi.specs.Places.{answerOf}
@@ -29,10 +28,6 @@ places-nowhere (K.Is p) K.Nothing = refl
 places-nowhere (K.Is p) (K.Is q) = relate-place p q
 
 -- patterns that are judged
-refused-place : {p : List ℕ} {r : Refusal} → Refuses p r → spotNo (judgedPlace (J.Refused r)) < 9
-refused-place (not-nine h) = omega arith
-refused-place {p = p} (bad-byte {k = k} n e) = omega (arith, bad-within goodLetter 0 k p e)
-
 pub judged-place : (j : Judged) (p ns : List ℕ) → Judges j p ns → spotNo (judgedPlace j) < 9
 judged-place (J.Is v) p ns g = omega arith
-judged-place (J.Refused r) p ns g = refused-place g
+judged-place (J.Refused r) p ns g = subst (λ c. spotNo (checkedPlace c) < 9) g (check-near p)

@@ -1,19 +1,17 @@
 -- What a letter can still come to, once over the letter and the dimension: it is in reach exactly when some dimension at least as large
 -- agrees with it, and firm exactly when every one does. Assumes nothing.
-use Prim.Native.Nat.{ℕ, _≤_, max}
+use Prim.Native.Nat.{ℕ, _/_, _^_, _≤_, max}
 use mathlib.Core.Path.{_≡_, refl, sym}
-use mathlib.Core.Bool.{Bool, true, false, cond}
+use mathlib.Core.Bool.{Bool, true, false, cond, not}
 use native.Mathlib.Omega.{arith}
 use borrow.Author.Tests.{eqb-true, eqb-false, eq-eqb, ne-eqb, leb-true, le-leb, not-true}
 use lib.Dec.{eqb}
-use Rattle.de9im.specs.declared.«dimension_matcher».DimensionMatcher.{DimensionMatcher}
-use Rattle.de9im.specs.declared.«dimension_matcher».DimensionMatcher.the-variants.{Anything, NonEmpty, Exact}
-use Rattle.de9im.specs.declared.«dimension_matcher».Letter.{Letter}
-use Rattle.de9im.specs.declared.«dimension_matcher».Letter.the-variants.{Good, Bad}
+use Rattle.de9im.specs.Letters.{DimensionMatcher, Anything, NonEmpty, Exact, Letter, Good, Bad, agreeOf, agreeLetter, isLetter, acceptedOf}
+use Rattle.de9im.specs.declared.dimensions.Dimensions.{Dimensions}
+use Rattle.de9im.specs.declared.dimensions.Dimensions.the-variants.{Empty, ZeroDimensional, OneDimensional, TwoDimensional}
 use Rattle.de9im.specs.Dimension.{dimNo}
-use Rattle.de9im.specs.Letters.{agreeOf, agreeLetter}
-use Rattle.de9im.specs.Patterns.{isLetter}
 use Rattle.de9im.proofs.LawsDimension.{dim-small}
+use Rattle.de9im.proofs.LawsLetters.{byDimension}
 use Rattle.verdict.specs.Inner.Table.{reachOf, firmOf, letterPasses}
 use Rattle.de9im.proofs.LawsBool.{clash, and-left, and-right}
 
@@ -81,6 +79,31 @@ left-firm (Exact d) n e = go (eqb (dimNo d) 3) refl e
     go : (t : Bool) → eqb (dimNo d) 3 ≡ t → eqb (cond t n 3) (dimNo d) ≡ true → firmOf (Exact d) n ≡ true
     go true f a = simp (f, eq-eqb n 3 (omega (arith, eqb-true n (dimNo d) a, eqb-true (dimNo d) 3 f)))
     go false f a = absurd (eqb-false (dimNo d) 3 f (sym (eqb-true 3 (dimNo d) a)))
+
+-- the same by the bits of what a letter accepts, which is how the code asks it
+abbrev ReachBits : Letter → Dimensions → Type 0
+ReachBits l d = not (eqb (acceptedOf l / 2 ^ dimNo d) 0) ≡ letterPasses reachOf l (dimNo d)
+
+pub reach-bits : (l : Letter) (d : Dimensions) → ReachBits l d
+reach-bits Bad = byDimension (ReachBits Bad) refl refl refl refl
+reach-bits (Good Anything) = byDimension (ReachBits (Good Anything)) refl refl refl refl
+reach-bits (Good NonEmpty) = byDimension (ReachBits (Good NonEmpty)) refl refl refl refl
+reach-bits (Good (Exact Empty)) = byDimension (ReachBits (Good (Exact Empty))) refl refl refl refl
+reach-bits (Good (Exact ZeroDimensional)) = byDimension (ReachBits (Good (Exact ZeroDimensional))) refl refl refl refl
+reach-bits (Good (Exact OneDimensional)) = byDimension (ReachBits (Good (Exact OneDimensional))) refl refl refl refl
+reach-bits (Good (Exact TwoDimensional)) = byDimension (ReachBits (Good (Exact TwoDimensional))) refl refl refl refl
+
+abbrev FirmBits : Letter → Dimensions → Type 0
+FirmBits l d = eqb (acceptedOf l / 2 ^ dimNo d) (15 / 2 ^ dimNo d) ≡ letterPasses firmOf l (dimNo d)
+
+pub firm-bits : (l : Letter) (d : Dimensions) → FirmBits l d
+firm-bits Bad = byDimension (FirmBits Bad) refl refl refl refl
+firm-bits (Good Anything) = byDimension (FirmBits (Good Anything)) refl refl refl refl
+firm-bits (Good NonEmpty) = byDimension (FirmBits (Good NonEmpty)) refl refl refl refl
+firm-bits (Good (Exact Empty)) = byDimension (FirmBits (Good (Exact Empty))) refl refl refl refl
+firm-bits (Good (Exact ZeroDimensional)) = byDimension (FirmBits (Good (Exact ZeroDimensional))) refl refl refl refl
+firm-bits (Good (Exact OneDimensional)) = byDimension (FirmBits (Good (Exact OneDimensional))) refl refl refl refl
+firm-bits (Good (Exact TwoDimensional)) = byDimension (FirmBits (Good (Exact TwoDimensional))) refl refl refl refl
 
 -- the same of a byte that is a letter
 module _ (l : Letter) (n : ℕ) (good : isLetter l ≡ true) where

@@ -13,8 +13,8 @@ use Rattle.de9im.specs.declared.«coordinate_position».Position.{Position}
 use Rattle.de9im.specs.declared.«coordinate_position».Position.the-variants.{None, Inside, OnBoundary, Outside}
 use Rattle.de9im.specs.Bytes.{bytes}
 use Rattle.de9im.specs.Cells.{cellsOf, matrixOf}
-use Rattle.de9im.specs.Letters.{letterOf}
-use Rattle.de9im.specs.Patterns.{isLetter, matchesOf, WhollyGood}
+use Rattle.de9im.specs.Letters.{letterOf, isLetter}
+use Rattle.de9im.specs.Patterns.{matchesOf, WhollyGood}
 use Rattle.de9im.specs.Position.{rowOf}
 use Rattle.de9im.specs.Text.{nineZeros}
 use Rattle.de9im.proofs.LawsForms.{matrix-shaped, nine-cases}

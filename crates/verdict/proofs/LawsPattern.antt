@@ -6,13 +6,11 @@ use mathlib.Core.Bool.{Bool, true, false}
 use mathlib.Core.List.{List, [], _∷_}
 use native.Mathlib.Omega.{arith}
 use lib.ListN.{length, getD}
-use Rattle.de9im.specs.declared.«dimension_matcher».DimensionMatcher.{DimensionMatcher}
-use Rattle.de9im.specs.declared.«dimension_matcher».Letter.{Letter}
+use Rattle.de9im.specs.Letters.{DimensionMatcher, Letter, letterOf, agreeLetter}
 use Rattle.de9im.specs.declared.patterns.Matched.{Matched}
 use Rattle.de9im.specs.declared.patterns.Matched.the-variants.{Yes, No, Refused}
 use Rattle.de9im.specs.Cells.{cellsOf, matrixOf}
 use Rattle.de9im.specs.Dimension.{dimNo, dimOf}
-use Rattle.de9im.specs.Letters.{letterOf, agreeLetter}
 use Rattle.de9im.specs.Matrix.{Matrix}
 use Rattle.de9im.specs.Patterns.{matchesOf, WhollyGood}
 use Rattle.de9im.specs.Text.{nine}

@@ -1,23 +1,24 @@
 -- A matrix has one verdict, so each is given exactly when demand 3 says; and a verdict for good stays. Assumes nothing.
-use Prim.Native.Nat.{ℕ, suc, _<_}
-use mathlib.Core.Path.{_≡_, refl, ap, subst}
+use Prim.Native.Nat.{ℕ}
+use mathlib.Core.Path.{_≡_, refl, sym, ap, subst, _∙_}
 use mathlib.Core.Bool.{Bool, true, false}
 use mathlib.Core.List.{List, [], _∷_}
-use native.Mathlib.Omega.{arith}
-use lib.ListN.{length, getD}
 use Rattle.plan.specs.Run.{Accepts, none, then}
 use Rattle.de9im.specs.declared.refusal.Refusal.{Refusal}
-use Rattle.de9im.specs.declared.refusal.Spot.the-variants.{At}
-use Rattle.de9im.specs.Patterns.{WhollyGood}
-use Rattle.de9im.specs.Text.{firstBad}
+use Rattle.de9im.specs.declared.answer.Checked.{Checked}
+use Rattle.de9im.specs.declared.answer.Checked.the-variants as C
+use Rattle.de9im.specs.declared.patterns.Matched.the-variants as M
+use Rattle.de9im.specs.Cells.{cellsOf}
+use Rattle.de9im.specs.Matrix.{Matrix}
+use Rattle.de9im.specs.Patterns.{checkOf, agreeAll, matchedBy, matchesOf}
 use Rattle.verdict.specs.declared.Verdict.{Verdict}
 use Rattle.verdict.specs.declared.Verdict.the-variants.{YesForGood, NoForGood, Open}
 use Rattle.verdict.specs.declared.pattern.Judged.{Judged}
 use Rattle.verdict.specs.declared.pattern.Judged.the-variants.{Is, Refused}
-use Rattle.verdict.specs.Judges.{goodLetter, Refuses, not-nine, bad-byte, Judges}
+use Rattle.verdict.specs.Judges.{Judges}
 use Rattle.verdict.specs.Means.{isBytes, Always, Sometimes, Means, matchOf}
 use Rattle.de9im.proofs.LawsBool.{clash}
-use Rattle.de9im.proofs.LawsApart.{impossible}
+use Rattle.de9im.proofs.LawsApart.{impossible, fine-refused}
 
 module _ (answer : List ℕ → Bool) (ns : List ℕ) where
   -- what every run ends in, none can end otherwise in
@@ -60,25 +61,23 @@ pub judged-stays : (p : List ℕ) (v w : Verdict) (ns s ms : List ℕ) → (v �
 judged-stays p v w ns s ms h b a f g = stays (matchOf p) v w ns s ms h b a (f .means) (g .means)
 
 -- a pattern has one answer: one refusal, or one verdict
-one-refusal : {p : List ℕ} {r q : Refusal} → Refuses p r → Refuses p q → r ≡ q
-one-refusal (not-nine h) (not-nine k) = refl
-one-refusal (not-nine h) (bad-byte k e) = absurd (h k)
-one-refusal (bad-byte h e) (not-nine k) = absurd (k h)
-one-refusal (bad-byte h e) (bad-byte k f) = cc
-
-good-none : (good : ℕ → Bool) (i k : ℕ) (bs : List ℕ) → ((j : ℕ) → j < length bs → good (getD bs j 0) ≡ true) → firstBad good i bs ≡ At k
-    → ⊥
-unfolding firstBad
-good-none good i k [] g e = impossible (cc)
-good-none good i k (b ∷ bs) g e =
-    good-none good (suc i) k bs (λ j h. g (suc j) (omega arith)) (rw (g 0 (omega arith)) at e)
-
-not-refused : {A : Type 0} {p : List ℕ} {r : Refusal} → WhollyGood p → Refuses p r → A
-not-refused g (not-nine h) = absurd (h (g .nine))
-not-refused {p = p} g (bad-byte {k = k} h e) = absurd (good-none goodLetter 0 k p (λ j l. g .letters j (omega arith)) e)
-
 pub one-judged : (p ns : List ℕ) (r q : Judged) → Judges r p ns → Judges q p ns → r ≡ q
 one-judged p ns (Is v) (Is w) f g = ap Is (one-verdict (matchOf p) ns v w (f .means) (g .means))
-one-judged p ns (Is v) (Refused q) f g = not-refused (f .good) g
-one-judged p ns (Refused r) (Is w) f g = not-refused (g .good) f
-one-judged p ns (Refused r) (Refused q) f g = ap Refused (one-refusal f g)
+one-judged p ns (Is v) (Refused q) f g = fine-refused (sym (f .good) ∙ g)
+one-judged p ns (Refused r) (Is w) f g = fine-refused (sym (g .good) ∙ f)
+one-judged p ns (Refused r) (Refused q) f g = cc
+
+-- `matches` is refused exactly when the verdict is, with the same number and place, whatever the matrices
+module _ (p ns : List ℕ) (m : Matrix) (r : Refusal) where
+  pub refused-both : Judges (Refused r) p ns → matchesOf m p ≡ M.Refused r
+  unfolding matchesOf
+  refused-both e = rw e refl
+
+  pub both-refused : matchesOf m p ≡ M.Refused r → Judges (Refused r) p ns
+  unfolding matchesOf
+  both-refused e = go (checkOf p) (agreeAll p (cellsOf m)) e
+    where
+      go : (x : Checked) (t : Bool) → matchedBy x t ≡ M.Refused r → x ≡ C.Refused r
+      go C.Fine true f = impossible (cc)
+      go C.Fine false f = impossible (cc)
+      go (C.Refused q) t f = cc

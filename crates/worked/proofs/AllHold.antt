@@ -6,7 +6,7 @@ use lib.Ieee.{lt, eq, ofInt}
 use Rattle.de9im.specs.declared.refusal.Refusal.the-variants.{BadByte}
 use Rattle.de9im.specs.Bytes.{bytes}
 use Rattle.de9im.specs.Letters.{letterOf}
-use Rattle.de9im.specs.Patterns.{walk, matchesOf, agreeAll}
+use Rattle.de9im.specs.Patterns.{checkOf, matchesOf, agreeAll}
 use Rattle.predicates.specs.Predicates.{holds}
 use Rattle.de9im.specs.Text.{cellLetterOf, firstBad}
 use Rattle.star.specs.Bundle.{count, onJoined, sideJoined, halfJoined, joinOf}
@@ -25,7 +25,7 @@ use Rattle.place.specs.Places.{finite, isPlace}
 use Rattle.place.specs.Relate.{relateOf}
 use Rattle.place.specs.Rules.{boxBox, related}
 use Rattle.stream.specs.Lines.{lineOf, answersOf}
-use Rattle.verdict.specs.Judges.{Judges, bad-byte}
+use Rattle.verdict.specs.Judges.{Judges}
 use Rattle.verdict.specs.Inner.Table.{every}
 use Rattle.verdict.specs.declared.Verdict.the-variants.{Open, NoForGood}
 use Rattle.verdict.specs.declared.pattern.Judged.the-variants as J
@@ -35,21 +35,21 @@ use Rattle.worked.specs.Examples.{p1-to-p14, printed, edges}
 
 -- the verdict's two: a bad byte; and by what the letters can still come to
 p7 : Judges (J.Refused (BadByte 2)) (bytes "T*X******") (cells "FFFFFFFF2")
-unfolding firstBad letterOf
-p7 = bad-byte refl refl
+unfolding checkOf firstBad letterOf
+p7 = refl
 
 p8-open : Judges (J.Is Open) (bytes "FF*FF****") (cells "FFFFFFFF2")
-unfolding firstBad letterOf every cellLetterOf
-p8-open = given (bytes "FF*FF****") (cells "FFFFFFFF2") true false refl refl refl refl
+unfolding checkOf firstBad letterOf every cellLetterOf
+p8-open = given (bytes "FF*FF****") (cells "FFFFFFFF2") true false refl refl refl
 
 p8-no : Judges (J.Is NoForGood) (bytes "FF*FF****") (cells "0FFFFFFF2")
-unfolding firstBad letterOf every cellLetterOf
-p8-no = given (bytes "FF*FF****") (cells "0FFFFFFF2") false false refl refl refl refl
+unfolding checkOf firstBad letterOf every cellLetterOf
+p8-no = given (bytes "FF*FF****") (cells "0FFFFFFF2") false false refl refl refl
 
 pub all-hold : Every p1-to-p14
 unfolding recordOf saidOf nodeOf nodeBody nodeAt pouredStar completedStar readEnds endAt dirAt labelAt sidesAt cellLetterOf
     orderOf count onJoined sideJoined halfJoined joinOf insertDir dirsFrom keep startOf walkFrom walkOf any missingLeft filledOf
-    pourNode pourLabel pourLabels holds agreeAll letterOf matchesOf walk
+    pourNode pourLabel pourLabels holds agreeAll letterOf matchesOf checkOf firstBad
     lt eq ofInt finite isPlace boxBox related relateOf bundledOf checkedOf firstFault
 all-hold =
     refl and refl and refl and refl and refl and refl and p7 and p8-open and p8-no and refl and refl and refl and refl and refl and refl and

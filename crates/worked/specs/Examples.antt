@@ -7,7 +7,7 @@ use lib.IntN.{pos}
 use lib.Ieee.{ofInt, binary64}
 use Rattle.de9im.specs.declared.«coordinate_position».Position.{Position}
 use Rattle.de9im.specs.declared.«coordinate_position».Position.the-variants.{None, Inside, OnBoundary}
-use Rattle.de9im.specs.declared.patterns.Matched.the-variants.{No, Refused}
+use Rattle.de9im.specs.declared.patterns.Matched.the-variants.{Refused}
 use Rattle.predicates.specs.declared.predicate.Predicate.the-variants.{EqualTopo, Crosses, Overlaps}
 use Rattle.de9im.specs.declared.refusal.Refusal.the-variants.{BadByte, Ends, NoRoom}
 use Rattle.de9im.specs.Bytes.{bytes}
@@ -90,8 +90,8 @@ p1-to-p14 =
     predicate-says EqualTopo "FFFFFFFF2" true ∷
     -- P4
     predicate-says EqualTopo "FFFFFFFFF" false ∷
-    -- P5
-    pattern-says "T*X******" "FFFFFFFF2" No ∷
+    -- P5, as request R-5 has it: a bad letter is always reported
+    pattern-says "T*X******" "FFFFFFFF2" (Refused (BadByte 2)) ∷
     -- P6
     pattern-says "T*X******" "212101212" (Refused (BadByte 2)) ∷
     -- P7

@@ -1,4 +1,5 @@
-//! `matches`: every byte at every place, reached and not reached, and many random pairs.
+//! `matches`: every byte at every place, on cells that agree and cells that disagree before and after it, and many random
+//! pairs.
 
 use super::Run;
 use crate::ours::{Call, Op};
@@ -6,15 +7,24 @@ use crate::pieces::{
     PATTERN_LETTERS, SEVERAL_BYTES, agreeing, agreeing_pattern, bad_byte, disagreeing,
     good_pattern, of_wrong_count, with_character,
 };
+use crate::rule;
 
 pub fn compare(run: &mut Run) {
     every_byte_on_every_cell(run);
-    every_byte_reached(run);
-    every_byte_not_reached(run);
+    every_byte_after_agreeing_cells(run);
+    every_byte_after_a_disagreeing_cell(run);
     characters_of_several_bytes(run);
     random_pairs(run);
     wrong_counts(run);
     numbers_above_3(run);
+}
+
+/// Request R-5: a bad letter is refused with its place, whatever the matrix.
+pub fn compare_bad_letters(run: &mut Run) {
+    p5_and_p6(run);
+    every_byte_among_agreeing_cells(run);
+    every_byte_before_a_disagreeing_cell(run);
+    every_byte_after_each_letter_on_empty(run);
 }
 
 fn ask(run: &mut Run, cells: [u8; 9], pattern: &[u8]) {
@@ -45,8 +55,8 @@ fn agreeing_up_to(run: &mut Run, cells: &[u8; 9], place: usize) -> [u8; 9] {
     pattern
 }
 
-fn every_byte_reached(run: &mut Run) {
-    run.begin("matches, every byte at every place, reached");
+fn every_byte_after_agreeing_cells(run: &mut Run) {
+    run.begin("matches, every byte at every place, the cells before it agree");
     for place in 0..9 {
         for byte in 0..=255 {
             for _ in 0..run.times(8) {
@@ -59,7 +69,7 @@ fn every_byte_reached(run: &mut Run) {
     }
 }
 
-fn every_byte_not_reached(run: &mut Run) {
+fn every_byte_after_a_disagreeing_cell(run: &mut Run) {
     run.begin("matches, every byte at every place, an earlier cell disagrees");
     for place in 1..9 {
         for byte in 0..=255 {
@@ -165,5 +175,64 @@ fn numbers_above_3(run: &mut Run) {
             pattern[place] = run.random.pick(b"*TtFf012X");
         }
         ask(run, cells, &pattern);
+    }
+}
+
+/// Document 01's own examples, P5 as the request has it.
+fn p5_and_p6(run: &mut Run) {
+    run.begin("matches, P5 and P6");
+    for letters in [b"FFFFFFFF2", b"212101212"] {
+        let cells = rule::letters(letters).expect("a matrix");
+        let call = Call::with_text(Op::Matches, cells, b"T*X******");
+        assert_eq!(rule::outcome(&call).word, rule::BAD_BYTE + 2, "{call:?}");
+        run.ask(call);
+    }
+}
+
+fn every_byte_among_agreeing_cells(run: &mut Run) {
+    run.begin("matches, every byte at every place, every other cell agrees");
+    for place in 0..9 {
+        for byte in 0..=255 {
+            for _ in 0..run.times(4) {
+                let cells = run.random.cells();
+                let mut pattern = agreeing_pattern(&mut run.random, &cells);
+                pattern[place] = byte;
+                ask(run, cells, &pattern);
+            }
+        }
+    }
+}
+
+fn every_byte_before_a_disagreeing_cell(run: &mut Run) {
+    run.begin("matches, every byte at every place, only a later cell disagrees");
+    for place in 0..8 {
+        for byte in 0..=255 {
+            for later in place + 1..9 {
+                for _ in 0..run.times(4) {
+                    let cells = run.random.cells();
+                    let mut pattern = agreeing_pattern(&mut run.random, &cells);
+                    pattern[later] = disagreeing(&mut run.random, cells[later]);
+                    pattern[place] = byte;
+                    ask(run, cells, &pattern);
+                }
+            }
+        }
+    }
+}
+
+/// Nothing random, so that the listed difference's smallest input is among them.
+fn every_byte_after_each_letter_on_empty(run: &mut Run) {
+    run.begin("matches on FFFFFFFFF, every byte behind each letter that disagrees, the rest `*`");
+    for place in 1..9 {
+        for earlier in 0..place {
+            for letter in *b"Tt012" {
+                for byte in 0..=255 {
+                    let mut pattern = *b"*********";
+                    pattern[earlier] = letter;
+                    pattern[place] = byte;
+                    ask(run, [0; 9], &pattern);
+                }
+            }
+        }
     }
 }

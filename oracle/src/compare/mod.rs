@@ -106,6 +106,8 @@ pub fn main() -> i32 {
     records::compare(&mut run);
     reports::compare(&mut run);
     verdicts::compare(&mut run);
+    // Last, so that every run above draws what it drew without it.
+    matches::compare_bad_letters(&mut run);
     run.answer_waiting();
     run.tally.report()
 }

@@ -2,18 +2,16 @@
 
 use super::plan_tally::Numbers;
 use crate::asked::{self, Answer, Said};
+use crate::listed::{self, Listed};
 use crate::ours::{Call, Op, Reply};
 use crate::rule::{self, Outcome};
 use std::collections::BTreeMap;
 
-/// The one listed difference between document 01 and the crate that these calls can meet.
-const KEEPS_RAISED: &str =
-    "raising refused: the crate's set_at_least_from_string keeps the cells already raised";
-
 /// Small inputs come first by this: see `size`.
-type Size = (u32, usize, [u8; 9], Vec<u8>);
+type Size = (u32, usize, u32, [u8; 9], Vec<u8>);
 
-struct Listed {
+/// How often a listed difference was met, and its smallest input.
+struct Met {
     count: u64,
     smallest: Size,
     example: String,
@@ -32,7 +30,7 @@ pub(super) struct Count {
 #[derive(Default)]
 pub struct Tally {
     kinds: Vec<(&'static str, Count)>,
-    listed: BTreeMap<&'static str, Listed>,
+    listed: BTreeMap<Listed, Met>,
     above_3_left: u64,
     above_3_written_as_3: u64,
     /// Verdicts: no for good, yes for good, open.
@@ -56,9 +54,9 @@ impl Tally {
         let said = asked::said(call);
         let listed = said
             .as_ref()
-            .is_some_and(|said| keeps_raised(call, &due, said));
-        if listed {
-            self.note_listed(KEEPS_RAISED, call, said.as_ref());
+            .and_then(|said| listed::difference(call, &due, said));
+        if let (Some(listed), Some(said)) = (listed, &said) {
+            self.note_listed(listed, call, &due, said);
         }
         self.note_above_3(call, &due, reply);
 
@@ -81,29 +79,21 @@ impl Tally {
         count.yes += u64::from(yes_or_no && due.word == 1);
         count.refused += u64::from(rule::refuses(due.word));
         count.not_asked += u64::from(said.is_none());
-        count.listed += u64::from(listed);
+        count.listed += u64::from(listed.is_some());
         count.unlisted += u64::from(!faults.is_empty());
     }
 
-    fn note_listed(&mut self, name: &'static str, call: &Call, said: Option<&Said>) {
-        let smallest = size(call);
-        let example = || {
-            let after = said.and_then(|said| said.nine);
-            format!(
-                "{}; the crate's cells after: {}",
-                describe(call),
-                letters(after)
-            )
-        };
-        let entry = self.listed.entry(name).or_insert_with(|| Listed {
+    fn note_listed(&mut self, listed: Listed, call: &Call, due: &Outcome, said: &Said) {
+        let smallest = size(call, due);
+        let met = self.listed.entry(listed).or_insert_with(|| Met {
             count: 0,
             smallest: smallest.clone(),
-            example: example(),
+            example: describe_listed(listed, call, due, said),
         });
-        entry.count += 1;
-        if smallest < entry.smallest {
-            entry.example = example();
-            entry.smallest = smallest;
+        met.count += 1;
+        if smallest < met.smallest {
+            met.example = describe_listed(listed, call, due, said);
+            met.smallest = smallest;
         }
     }
 
@@ -136,12 +126,9 @@ impl Tally {
             );
         }
         println!();
-        for (name, listed) in &self.listed {
-            println!("listed difference: {name}");
-            println!(
-                "    {} times; smallest input: {}",
-                listed.count, listed.example
-            );
+        for (listed, met) in &self.listed {
+            println!("listed difference: {}", listed.words());
+            println!("    {} times; smallest input: {}", met.count, met.example);
         }
         println!(
             "accepted changes of a matrix with numbers above 3: {} times such a number still stood in some cell, {} times all nine were 0 to 3",
@@ -163,7 +150,7 @@ fn faults(
     due: &Outcome,
     said: Option<&Said>,
     reply: &Reply,
-    listed: bool,
+    listed: Option<Listed>,
 ) -> Vec<&'static str> {
     let mut faults = Vec::new();
     let mut fault = |holds: bool, name| {
@@ -173,13 +160,18 @@ fn faults(
     };
     if let Some(said) = said {
         fault(said.answer == Answer::Panicked, "the crate panics");
+        let answers = listed != Some(Listed::WalksPast);
         fault(
-            !said.answer.agrees_with(due.word),
+            answers && !said.answer.agrees_with(due.word),
             "the crate's answer isn't document 01's",
         );
         fault(
-            !said.answer.agrees_with(reply.word),
+            answers && !said.answer.agrees_with(reply.word),
             "our answer isn't the crate's",
+        );
+        fault(
+            tells_another_letter(call, due),
+            "the crate's letters tell another first bad one",
         );
         let read_due = if call.op == Op::ToText {
             due.nine
@@ -187,7 +179,7 @@ fn faults(
             rule::read(&due.nine)
         };
         fault(
-            !listed && said.nine.is_some_and(|nine| nine != read_due),
+            listed != Some(Listed::KeepsRaised) && said.nine.is_some_and(|nine| nine != read_due),
             "the crate's nine bytes aren't document 01's",
         );
     }
@@ -200,6 +192,16 @@ fn faults(
     fault(ours != due.nine, "our nine bytes aren't document 01's");
     fault(reply.stray, "a byte changed that the call may not write");
     faults
+}
+
+/// Whether the crate's own letters tell another first bad one of nine bytes than the rule refuses, or one where it doesn't.
+fn tells_another_letter(call: &Call, due: &Outcome) -> bool {
+    let pattern = std::str::from_utf8(call.text());
+    let (Op::Matches, 9, Ok(pattern)) = (call.op, call.count, pattern) else {
+        return false;
+    };
+    let told = asked::first_bad_letter(pattern).map(|place| rule::BAD_BYTE + place as u32);
+    told != Some(due.word).filter(|word| rule::refuses(*word))
 }
 
 /// Whether the rule for numbers above 3 settles the nine bytes only as they are read: accepted changes of a given
@@ -216,26 +218,12 @@ fn above_3(cells: &[u8; 9]) -> bool {
     cells.iter().any(|cell| *cell > 3)
 }
 
-/// Exactly the listed difference: both refuse a bad byte, and the crate has raised the cells before its place and no
-/// other.
-fn keeps_raised(call: &Call, due: &Outcome, said: &Said) -> bool {
-    let refused = call.op == Op::Raise && due.word >= rule::BAD_BYTE;
-    let (true, Answer::Refused, Some(nine)) = (refused, &said.answer, said.nine) else {
-        return false;
-    };
-    let given = rule::read(&call.cells);
-    let place = (due.word - rule::BAD_BYTE) as usize;
-    let mut good_part = *b"FFFFFFFFF";
-    good_part[..place].copy_from_slice(&call.text()[..place]);
-    let raised = rule::outcome(&Call::with_text(Op::Raise, given, &good_part)).nine;
-    nine == raised && nine != given
-}
-
-/// Few and low cells first, then texts with few letters other than F.
-fn size(call: &Call) -> Size {
+/// Few and low cells first, then texts with few letters other than F (patterns: other than `*`), then early places.
+fn size(call: &Call, due: &Outcome) -> Size {
     let sum = call.cells.iter().map(|cell| u32::from(*cell)).sum();
-    let others = call.text().iter().filter(|byte| **byte != b'F').count();
-    (sum, others, call.cells, call.text().to_vec())
+    let plain = if call.op == Op::Matches { b'*' } else { b'F' };
+    let others = call.text().iter().filter(|byte| **byte != plain).count();
+    (sum, others, due.word, call.cells, call.text().to_vec())
 }
 
 /// A matrix as text, if all its numbers have a letter.
@@ -263,6 +251,17 @@ fn describe(call: &Call) -> String {
             "{:?} ({}, {}) to {} on {cells}",
             call.op, call.a, call.b, call.dimension
         ),
+    }
+}
+
+fn describe_listed(listed: Listed, call: &Call, due: &Outcome, said: &Said) -> String {
+    let call = describe(call);
+    match listed {
+        Listed::KeepsRaised => format!("{call}; the crate's cells after: {}", letters(said.nine)),
+        Listed::WalksPast => {
+            let place = due.word - rule::BAD_BYTE;
+            format!("{call}; the crate: no; by the rule: refusal 11 at {place}")
+        }
     }
 }
 

@@ -6,10 +6,7 @@ use mathlib.Core.List.{List, [], _∷_}
 use lib.Dec.{eqb, leb}
 use Rattle.de9im.specs.declared.dimensions.Dimensions.the-variants.{TwoDimensional}
 use Rattle.de9im.specs.declared.«coordinate_position».CoordPos.the-variants.{Inside as I, OnBoundary as B, Outside as E}
-use Rattle.de9im.specs.declared.«dimension_matcher».DimensionMatcher.{DimensionMatcher}
-use Rattle.de9im.specs.declared.«dimension_matcher».DimensionMatcher.the-variants.{Anything, NonEmpty, Exact}
-use Rattle.de9im.specs.declared.«dimension_matcher».Letter.{Letter}
-use Rattle.de9im.specs.declared.«dimension_matcher».Letter.the-variants.{Good, Bad}
+use Rattle.de9im.specs.Letters.{DimensionMatcher, Anything, NonEmpty, Exact, Letter, Good, Bad, letterOf}
 use Rattle.predicates.specs.declared.predicate.Predicate.{Predicate}
 use Rattle.predicates.specs.declared.predicate.Predicate.the-variants.{
   Disjoint,
@@ -25,7 +22,6 @@ use Rattle.predicates.specs.declared.predicate.Predicate.the-variants.{
   Overlaps,
 }
 use Rattle.de9im.specs.Dimension.{dimNo}
-use Rattle.de9im.specs.Letters.{letterOf}
 use Rattle.de9im.specs.Matrix.{Matrix}
 use Rattle.predicates.specs.Predicates.{isF, both, holds}
 use Rattle.verdict.specs.declared.Verdict.{Verdict}

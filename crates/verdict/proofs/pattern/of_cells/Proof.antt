@@ -1,65 +1,72 @@
--- `verdict::pattern::of_cells`. The loop keeps: no bad byte so far, and each test of the whole is what was found so far and the test of
--- what is left. Assumes nothing.
+-- The pattern passes its check, and the loop keeps: each test of the whole is what was found so far and the test of what is left.
+-- Assumes nothing.
 use borrow.Author.Needs.{needs}
 use native.Mathlib.Omega.{arith}
 use Prim.Native.Nat.{_-_, _≤_}
-use mathlib.Core.Path.{_≡_, refl, ap, _∙_}
+use mathlib.Core.Path.{_≡_, refl, sym, _∙_}
 use mathlib.Core.Bool.{_&&_}
 use lib.ListN.{getD}
-use Rattle.de9im.specs.declared.«dimension_matcher».Letter.the-variants.{Good, Bad}
 use Rattle.de9im.specs.Dimension.{dimNo, dimOf}
-use Rattle.de9im.specs.Letters.{letterOf}
-use Rattle.de9im.specs.Patterns.{isLetter}
-use Rattle.de9im.proofs.LawsText.{badFrom, bad-next, bad-here, bad-end}
-use Rattle.verdict.specs.Judges.{goodLetter, not-nine, bad-byte}
-use Rattle.verdict.specs.Inner.Table.{reachOf, firmOf, every}
+use Rattle.de9im.specs.Letters.{letterOf, acceptedOf}
+use Rattle.de9im.proofs.LawsForms.{nine-at}
+use Rattle.de9im.proofs.LawsPatterns.{answer-is, check-is, nine-is, letters-are}
+use Rattle.verdict.specs.Inner.Table.{reachOf, firmOf, letterPasses, every}
+use Rattle.verdict.proofs.LawsLetter.{reach-bits, firm-bits}
 use Rattle.verdict.proofs.LawsLoop.{everyFrom, every-next, every-end, given}
 use Rattle.verdict.proofs.LawsPattern.{numbers}
 use Rattle.verdict.proofs.pattern.of_cells.Statement.{statement}
 use Rattle.verdict.proofs.pattern.of_cells.Tie as tie
 
 abbrev Inv-loop : tie.InvT-loop
-Inv-loop pattern cells hope₀ firm₀ k₀ hope firm k = (k ≤ 9) × (badFrom goodLetter pattern 0 ≡ badFrom goodLetter pattern k) ×
+Inv-loop pattern cells letters hope₀ firm₀ k₀ hope firm k = (k ≤ 9) ×
     (every reachOf pattern (numbers cells) ≡ (hope && everyFrom reachOf pattern cells k)) ×
     (every firmOf pattern (numbers cells) ≡ (firm && everyFrom firmOf pattern cells k))
 
 abbrev μ-loop : tie.MeasureT-loop
-μ-loop pattern cells hope₀ firm₀ k₀ hope firm k = 9 - k
+μ-loop pattern cells letters hope₀ firm₀ k₀ hope firm k = 9 - k
 
-returns-2 : tie.Need-returns-2 Inv-loop μ-loop
-returns-2 c =
-    let b = c .before .before .before .before .before in
-    let p = b .before .before .before .args .pattern .now in
-    let l : letterOf (getD p (b .loop .k) 0) ≡ Bad = cc in
-    bad-byte (omega arith) (b .loop .inv .1 ∙ bad-here goodLetter p (b .loop .k) (omega arith) (ap isLetter l))
+returns : tie.Need-returns Inv-loop μ-loop
+returns c =
+    let q = c .before .before .before .before in
+    let p = q .before .before .args .pattern .now in
+    let e = c .before .enum-told2 .given .1 in
+    rw (c .judged-by .ensures, e) (sym (answer-is p _ (q .check-pattern .ensures)) ∙ e)
 
 loop-again : tie.Need-loop-again Inv-loop μ-loop
 loop-again c =
-    let b = c .before .before .before .before .before .before .before .before .before in
-    let s = b .before .before .before .args in
+    let b = c .before .before .before .before in
+    let q = b .before .before .before .before in
+    let s = q .before .before .args in
     let p = s .pattern .now in
+    let fine = b .before .enum-told .given .1 in
+    let is = q .check-pattern .ensures in
     let k = b .loop .k in
-    let w = c .before .before .before .before .w .given .0 .0 in
-    let l : letterOf (getD p k 0) ≡ Good w = cc in
-    let n = dimNo (dimOf (getD (s .t1) k 0)) in
-    let d : dimNo (c .before .before .dimension .result) ≡ n = ap dimNo (c .before .before .dimension .ensures) in
-    let x : c .before .can-reach .result ≡ reachOf w n = c .before .can-reach .ensures ∙ ap (reachOf w) d in
-    let y : c .is-firm .result ≡ firmOf w n = c .is-firm .ensures ∙ ap (firmOf w) d in (
+    let l = letterOf (getD p k 0) in
+    let d = dimOf (getD (s .t1) k 0) in
+    let w : getD (q .check-pattern .result .letters) k 0 ≡ acceptedOf l =
+    rw (letters-are p _ is fine) (nine-at (λ j. acceptedOf (letterOf (getD p j 0))) k (omega arith)) in
+    let x : c .before .can-reach .result ≡ letterPasses reachOf l (dimNo d) =
+    c .before .can-reach .ensures ∙ rw (w, c .before .before .dimension .ensures) (reach-bits l d) in
+    let y : c .is-firm .result ≡ letterPasses firmOf l (dimNo d) =
+    c .is-firm .ensures ∙ rw (w, c .before .before .dimension .ensures) (firm-bits l d) in (
       omega arith,
-      b .loop .inv .1 ∙ bad-next goodLetter p k (omega arith) (ap isLetter l),
-      rw x (every-next reachOf p (s .t1) (omega arith) (b .loop .hope) k w (omega arith) l (b .loop .inv .2)),
-      rw y (every-next firmOf p (s .t1) (omega arith) (b .loop .firm) k w (omega arith) l (b .loop .inv .3)),
+      every-next reachOf p (s .t1) (nine-is p _ is fine) (b .loop .hope) k _ (omega arith) x (b .loop .inv .1),
+      every-next firmOf p (s .t1) (nine-is p _ is fine) (b .loop .firm) k _ (omega arith) y (b .loop .inv .2),
     )
 
-returns-3 : tie.Need-returns-3 Inv-loop μ-loop
-returns-3 c =
-    let l = c .before .before .before .loop in
-    let s = c .before .before .before .before .before .before .args in
+returns-2 : tie.Need-returns-2 Inv-loop μ-loop
+returns-2 c =
+    let b = c .before .before .before in
+    let q = b .before .before .before .before in
+    let s = q .before .before .args in
     let p = s .pattern .now in
+    let fine = b .before .enum-told .given .1 in
+    let is = q .check-pattern .ensures in
+    let l = b .loop in
     rw (c .pick2 .ensures, c .before .pick .ensures)
-    (given p (s .t1) (l .hope) (l .firm) (omega arith) (l .inv .1 ∙ bad-end goodLetter p (l .k) (omega arith))
-    (every-end reachOf p (s .t1) (omega arith) (l .hope) (l .k) (omega arith) (l .inv .2))
-    (every-end firmOf p (s .t1) (omega arith) (l .firm) (l .k) (omega arith) (l .inv .3)))
+    (given p (s .t1) (l .hope) (l .firm) (check-is p _ is fine)
+    (every-end reachOf p (s .t1) (nine-is p _ is fine) (l .hope) (l .k) (omega arith) (l .inv .1))
+    (every-end firmOf p (s .t1) (nine-is p _ is fine) (l .firm) (l .k) (omega arith) (l .inv .2)))
 
 pub of-cells-spec : {M : Type 1} → statement M
 of-cells-spec =
@@ -67,13 +74,13 @@ of-cells-spec =
     (tie.spec
     Inv-loop
     μ-loop
-    (λ c. not-nine (c .if1 .taken))
-    (λ c. (omega arith, refl, refl, refl))
-    (λ c. search needs)
     (λ c κs. search needs)
     (λ c. search needs)
     (λ c. search needs)
-    returns-2
+    (λ c κs. search needs)
+    returns
+    (λ c. (omega arith, refl, refl))
+    (λ c. search needs)
     (λ c. search needs)
     (λ c κs. search needs)
     (λ c κs. search needs)
@@ -83,4 +90,4 @@ of-cells-spec =
     loop-again
     (λ c κs. search needs)
     (λ c κs. search needs)
-    returns-3)
+    returns-2)
