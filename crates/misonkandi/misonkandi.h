@@ -14,9 +14,9 @@
  * any threads may call at once, each on bytes of its own. Of the C library no more is needed than memcpy, memmove and
  * memset.
  *
- * Stack: MISONKANDI_STACK_BYTES are enough for any call. misonkandi_star takes most, about 3,900 bytes on x86-64 and
- * AArch64, misonkandi_bundle 2,800, misonkandi_record 2,500, each other less than 256: the compiler's frame sizes,
- * added up along the calls, of which none leads back to itself. bindings/c/run.sh measures it on a painted stack.
+ * Stack: MISONKANDI_STACK_BYTES are enough for any call. misonkandi_star takes most, about 4,900 bytes,
+ * misonkandi_bundle 3,900, misonkandi_record 2,900, each other less than 256: measured on AArch64, on a painted stack
+ * (bindings/c/run.sh, which fails at more than MISONKANDI_STACK_BYTES). No call leads back to itself.
  */
 #ifndef MISONKANDI_H
 #define MISONKANDI_H
