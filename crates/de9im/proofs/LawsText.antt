@@ -72,7 +72,8 @@ set-below ns (suc k) h e =
     ∙ rw (← add-one) (bad-next isSet ns k (omega arith) (and-right (setBelow ns k) (isSet (getD ns k 0)) e))
 
 -- the first bad byte is the first bad one of what is made of the bytes, if a test says so of each
-pub mapped-bad : (f : ℕ → ℕ) (t s : ℕ → Bool) → ((b : ℕ) → t (f b) ≡ s b) → (k : ℕ) (bs : List ℕ) → firstBad t k (map f bs) ≡ firstBad s k bs
+pub mapped-bad : (f : ℕ → ℕ) (t s : ℕ → Bool) → ((b : ℕ) → t (f b) ≡ s b) → (k : ℕ) (bs : List ℕ)
+    → firstBad t k (map f bs) ≡ firstBad s k bs
 unfolding firstBad
 mapped-bad f t s h k [] = refl
 mapped-bad f t s h k (b ∷ bs) = rw (h b) (ap (λ x. cond (s b) x (At k)) (mapped-bad f t s h (suc k) bs))

@@ -13,7 +13,8 @@ ghost use mathlib.Core.Path.{_≡_};
 ghost use Prim.Native.Nat.{max, min, _-_};
 ghost use lib.ListN.{length, getD};
 ghost use Rattle.de9im.specs.Dimension.{dimNo};
-ghost use Rattle.de9im.specs.Text.{byteOf, cellLetterOf, letterCode, codesOf, nine, textOf, refusedText, readOf, raisedBy, raisedFrom};
+ghost use Rattle.de9im.specs.Text.{byteOf, cellLetterOf, letterCode, codesOf, nine, textOf};
+ghost use Rattle.de9im.specs.Text.{refusedText, readOf, raisedBy, raisedFrom};
 
 // What a byte of a matrix text says: one more than its cell's number, or 0 for a bad byte. Four good letters; lower case is bad here,
 // and so are 128 and up.
