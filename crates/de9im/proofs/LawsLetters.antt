@@ -1,15 +1,14 @@
 -- Laws of letters: a byte has one meaning, the sum of the six decisions over it; and the bit of a number in a meaning says whether a cell
 -- of that number agrees. Assumes nothing.
-use Prim.Native.Nat.{ℕ, _+_, _/_, _%_, _^_, _≤_}
+use Prim.Native.Nat.{ℕ, _+_, _-_, _/_, _%_, _^_, _≤_}
 use mathlib.Core.Path.{_≡_, refl, subst, sym}
 use mathlib.Core.Bool.{Bool, true, false, cond, not, _||_}
 use mathlib.Core.Logic.{_⊎_, inl, inr}
 use native.Mathlib.Omega.{arith}
-use borrow.Author.Tests.{eq-eqb, ne-eqb, eqb-true}
+use borrow.Author.Tests.{eq-eqb, ne-eqb, eqb-true, eqb-false}
 use lib.Dec.{eqb}
 use Rattle.de9im.specs.declared.dimensions.Dimensions.{Dimensions}
 use Rattle.de9im.specs.declared.dimensions.Dimensions.the-variants.{Empty, ZeroDimensional, OneDimensional, TwoDimensional}
-use Rattle.de9im.specs.declared.text.CellLetter.the-variants as C
 use Rattle.de9im.specs.Dimension.{dimNo}
 use Rattle.de9im.specs.Letters.{
   DimensionMatcher,
@@ -24,7 +23,7 @@ use Rattle.de9im.specs.Letters.{
   agreeLetter,
   acceptedOf,
 }
-use Rattle.de9im.specs.Text.{cellLetterOf}
+use Rattle.de9im.specs.Text.{cellLetterOf, letterCode}
 use Rattle.de9im.specs.Inner.Nine.{isSet}
 use Rattle.de9im.proofs.LawsBool.{told}
 
@@ -95,9 +94,24 @@ accepted-set (Good Anything) = refl
 accepted-set (Good NonEmpty) = refl
 accepted-set (Good (Exact d)) = byDimension (λ (x : Dimensions). isSet (acceptedOf (Good (Exact x))) ≡ true) refl refl refl refl d
 
-abbrev pub NoCellLetter : ℕ → Type 0
-NoCellLetter b = ((((Unit {0} × (b ≡ 48 → ⊥)) × (b ≡ 49 → ⊥)) × (b ≡ 50 → ⊥)) × (b ≡ 70 → ⊥))
+-- a byte of a matrix text: a digit by how far it stands above 46, any other byte than `F` bad
+module _ (b : ℕ) where
+  digit : (k : ℕ) → k - 46 ≡ letterCode (cellLetterOf k) → eqb b k ≡ true → b - 46 ≡ letterCode (cellLetterOf b)
+  digit k e h = subst (λ (x : ℕ). x - 46 ≡ letterCode (cellLetterOf x)) (sym (eqb-true b k h)) e
 
-pub bad-cell-letter : (b : ℕ) → NoCellLetter b → cellLetterOf b ≡ C.Bad
-unfolding cellLetterOf
-bad-cell-letter b h = simp (ne-eqb b 70 (h .1), ne-eqb b 48 (h .0 .0 .0 .1), ne-eqb b 49 (h .0 .0 .1), ne-eqb b 50 (h .0 .1))
+  pub digit-code : 48 ≤ b → b ≤ 50 → b - 46 ≡ letterCode (cellLetterOf b)
+  unfolding cellLetterOf
+  digit-code l h =
+      told (eqb b 48) (digit 48 refl) λ n0.
+      told (eqb b 49) (digit 49 refl) λ n1.
+      told (eqb b 50) (digit 50 refl) λ n2.
+      absurd (omega (arith, eqb-false b 48 n0, eqb-false b 49 n1, eqb-false b 50 n2))
+
+  pub other-code : (48 ≤ b → b ≤ 50 → ⊥) → (b ≡ 70 → ⊥) → 0 ≡ letterCode (cellLetterOf b)
+  unfolding cellLetterOf
+  other-code d f = simp (
+    ne-eqb b 70 f,
+    ne-eqb b 48 (λ e. d (omega (arith, e)) (omega (arith, e))),
+    ne-eqb b 49 (λ e. d (omega (arith, e)) (omega (arith, e))),
+    ne-eqb b 50 (λ e. d (omega (arith, e)) (omega (arith, e))),
+  )

@@ -17,8 +17,8 @@ use Rattle.de9im.specs.declared.patterns.Matched.the-variants.{Yes, No, 
 use Rattle.de9im.specs.Letters.{Letter, Good, Bad, letterOf, isLetter, goodLetter, agreeOf, agreeLetter}
 use Rattle.de9im.specs.Matrix.{Matrix}
 use Rattle.de9im.specs.Cells.{cellsOf}
-use Rattle.de9im.specs.Patterns.{byBad, checkOf, matchedBy, matchesOf, agreeAll, WhollyGood}
-use Rattle.de9im.specs.Text.{firstBad}
+use Rattle.de9im.specs.Patterns.{checkOf, matchedBy, matchesOf, agreeAll, WhollyGood}
+use Rattle.de9im.specs.Text.{byBad, firstBad}
 use Rattle.de9im.specs.Inner.OldWalk.{atCell, walk, walkedOf}
 use Rattle.de9im.proofs.LawsApart.{impossible}
 use Rattle.de9im.proofs.LawsBool.{false-is-not-true, and-left, and-right}

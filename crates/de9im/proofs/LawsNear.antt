@@ -15,9 +15,9 @@ use Rattle.de9im.specs.Answers.{checkedPlace, matchedPlace, textPlace}
 use Rattle.de9im.specs.Cells.{cellsOf}
 use Rattle.de9im.specs.Letters.{goodLetter}
 use Rattle.de9im.specs.Matrix.{Matrix}
-use Rattle.de9im.specs.Patterns.{byBad, checkOf, agreeAll, matchedBy, matchesOf}
+use Rattle.de9im.specs.Patterns.{checkOf, agreeAll, matchedBy, matchesOf}
 use Rattle.de9im.specs.Refused.{spotNo}
-use Rattle.de9im.specs.Text.{firstBad, goodByte, readOf, raisedFrom}
+use Rattle.de9im.specs.Text.{byBad, firstBad, goodByte, readOf, raisedFrom}
 use Rattle.de9im.proofs.LawsNumbers.{read-place, raised-place}
 use Rattle.de9im.proofs.LawsApart.{impossible}
 

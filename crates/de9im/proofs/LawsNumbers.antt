@@ -24,8 +24,8 @@ use Rattle.de9im.specs.declared.answer.Checked.the-variants as C
 use Rattle.de9im.specs.Cells.{cellsOf}
 use Rattle.de9im.specs.Letters.{goodLetter}
 use Rattle.de9im.specs.Matrix.{Matrix}
-use Rattle.de9im.specs.Patterns.{byBad, checkOf, agreeAll, matchedBy, matchesOf}
-use Rattle.de9im.specs.Text.{firstBad, goodByte, refused, afterBad, readOf, raisedFrom}
+use Rattle.de9im.specs.Patterns.{checkOf, agreeAll, matchedBy, matchesOf}
+use Rattle.de9im.specs.Text.{byBad, firstBad, goodByte, refused, afterBad, readOf, raisedFrom}
 
 number : (nine : Bool) (s : Spot) (taken given : List ℕ)
     → checkedNo (cond nine (afterBad s taken given) (refused NotNineBytes given) .answer) ≡ cond nine (badNo s) 10

@@ -23,7 +23,6 @@ use Rattle.de9im.specs.Cells.{cellsOf}
 use Rattle.de9im.specs.Patterns.{
   lettersOf,
   agreeAll,
-  byBad,
   checkOf,
   refusedPattern,
   patternBy,
@@ -31,12 +30,13 @@ use Rattle.de9im.specs.Patterns.{
   matchedBy,
   matchesOf,
 }
-use Rattle.de9im.specs.Text.{firstBad, nine}
+use Rattle.de9im.specs.Text.{firstBad, byBad}
 use Rattle.de9im.specs.Inner.Nine.{isSet}
 use Rattle.de9im.proofs.LawsApart.{fine-refused}
 use Rattle.de9im.proofs.LawsBool.{told}
 use Rattle.de9im.proofs.LawsForms.{nine-at}
 use Rattle.de9im.proofs.LawsLetters.{accepted-bit, accepted-set}
+use Rattle.de9im.proofs.LawsText.{mapped-bad, nine-map}
 
 -- the nine numbers, read row by row
 pub cells-at : (m : Matrix) (i j : ℕ) → i < 3 → j < 3 → getD (cellsOf m) (3 * i + j) 0 ≡ dimNo (cellAt m i j)
@@ -90,20 +90,6 @@ from-end p m e =
     rw (drop-of-length-le p h) refl
 
 -- a bad byte is one that nothing agrees with, so the first of them is where the first 0 stands
-mapped-bad : (f : ℕ → ℕ) (t s : ℕ → Bool) → ((b : ℕ) → t (f b) ≡ s b) → (k : ℕ) (bs : List ℕ) → firstBad t k (map f bs) ≡ firstBad s k bs
-unfolding firstBad
-mapped-bad f t s h k [] = refl
-mapped-bad f t s h k (b ∷ bs) = rw (h b) (ap (λ x. cond (s b) x (At k)) (mapped-bad f t s h (suc k) bs))
-
-nine-map : (f : ℕ → ℕ) (p : List ℕ) → length p ≡ 9 → nine (λ k. f (getD p k 0)) ≡ map f p
-nine-map f p e = ext-getD 0 (nine (λ k. f (getD p k 0))) (map f p) (sym (length-map p f ∙ e)) (λ k h.
-    nine-at (λ j. f (getD p j 0)) k h ∙ sym (map-at p k (omega arith)))
-  where
-    map-at : (xs : List ℕ) (k : ℕ) → k < length xs → getD (map f xs) k 0 ≡ f (getD xs k 0)
-    map-at [] k h = absurd (omega arith)
-    map-at (x ∷ xs) zero h = refl
-    map-at (x ∷ xs) (suc k) h = map-at xs k (omega arith)
-
 pub bad-letters : (p : List ℕ) → length p ≡ 9 → firstBad isSet 0 (lettersOf p) ≡ firstBad goodLetter 0 p
 bad-letters p e =
     ap (firstBad isSet 0) (nine-map (λ b. acceptedOf (letterOf b)) p e)

@@ -10,8 +10,6 @@ use Rattle.de9im.specs.declared.dimensions.Dimensions.{Dimensions}
 use Rattle.de9im.specs.declared.dimensions.Dimensions.the-variants.{Empty, ZeroDimensional, OneDimensional, TwoDimensional}
 use Rattle.de9im.specs.declared.refusal.Spot.{Spot}
 use Rattle.de9im.specs.declared.refusal.Spot.the-variants.{Nowhere, At}
-use Rattle.de9im.specs.declared.text.CellLetter.{CellLetter}
-use Rattle.de9im.specs.declared.text.CellLetter.the-variants.{Good, Bad}
 use Rattle.de9im.specs.declared.answer.CellsAnswer.{CellsAnswer}
 use Rattle.de9im.specs.Dimension.{dimNo, dimOf}
 use Rattle.de9im.specs.Matrix.{Matrix}
@@ -19,6 +17,9 @@ use Rattle.de9im.specs.Cells.{cellsOf, matrixOf}
 use Rattle.de9im.specs.Text.{
   byteOf,
   textOf,
+  CellLetter,
+  Good,
+  Bad,
   cellLetterOf,
   isGood,
   letterNo,

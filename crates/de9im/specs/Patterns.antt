@@ -18,13 +18,9 @@ use Rattle.de9im.specs.declared.refusal.Spot.the-variants.{Nowhere, At}
 use Rattle.de9im.specs.Letters.{letterOf, isLetter, goodLetter, agreeLetter, acceptedOf}
 use Rattle.de9im.specs.Matrix.{Matrix}
 use Rattle.de9im.specs.Cells.{cellsOf}
-use Rattle.de9im.specs.Text.{firstBad, nine, nineZeros}
+use Rattle.de9im.specs.Text.{firstBad, byBad, nine, nineZeros}
 
 -- a pattern checked whole, before any cell is looked at
-abbrev pub byBad : Spot → Checked
-byBad Nowhere = C.Fine
-byBad (At k) = C.Refused (BadByte k)
-
 unfoldable pub checkOf : List ℕ → Checked
 checkOf p = cond (eqb (length p) 9) (byBad (firstBad goodLetter 0 p)) (C.Refused NotNineBytes)
 

@@ -6,13 +6,13 @@ use mathlib.Core.Bool.{Bool, true, false, cond}
 use mathlib.Core.List.{List, [], _∷_, map}
 use lib.Dec.{eqb}
 use lib.ListN.{length, getD}
+use Rattle.de9im.specs.declared.dimensions.Dimensions.{Dimensions}
 use Rattle.de9im.specs.declared.dimensions.Dimensions.the-variants.{Empty, ZeroDimensional, OneDimensional, TwoDimensional}
 use Rattle.de9im.specs.declared.refusal.Refusal.{Refusal}
 use Rattle.de9im.specs.declared.refusal.Refusal.the-variants.{NotNineBytes, BadByte}
 use Rattle.de9im.specs.declared.refusal.Spot.{Spot}
 use Rattle.de9im.specs.declared.refusal.Spot.the-variants.{Nowhere, At}
-use Rattle.de9im.specs.declared.text.CellLetter.{CellLetter}
-use Rattle.de9im.specs.declared.text.CellLetter.the-variants.{Good, Bad}
+use Rattle.de9im.specs.declared.answer.Checked.{Checked}
 use Rattle.de9im.specs.declared.answer.Checked.the-variants.{Fine, Refused}
 use Rattle.de9im.specs.declared.answer.CellsAnswer.{CellsAnswer}
 use Rattle.de9im.specs.Dimension.{dimNo}
@@ -28,6 +28,11 @@ byteOf (suc (suc (suc n))) = code "2"
 
 abbrev pub textOf : Matrix → List ℕ
 textOf m = map byteOf (cellsOf m)
+
+-- what a byte of a matrix text is
+pub data CellLetter : Type 0 where
+  Good : Dimensions → CellLetter
+  Bad : CellLetter
 
 unfoldable pub cellLetterOf : ℕ → CellLetter
 cellLetterOf b =
@@ -45,10 +50,20 @@ abbrev pub letterNo : CellLetter → ℕ
 letterNo (Good d) = dimNo d
 letterNo Bad = 0
 
+-- as one number: a bad one 0, else one more than the number it stands for
+abbrev pub letterCode : CellLetter → ℕ
+letterCode (Good d) = suc (dimNo d)
+letterCode Bad = 0
+
 -- the place of the first byte that fails a test, from place k on
 unfoldable pub firstBad : (ℕ → Bool) → ℕ → List ℕ → Spot
 firstBad good k [] = Nowhere
 firstBad good k (b ∷ bs) = cond (good b) (firstBad good (suc k) bs) (At k)
+
+-- refused at that place
+abbrev pub byBad : Spot → Checked
+byBad Nowhere = Fine
+byBad (At k) = Refused (BadByte k)
 
 -- nine numbers by their place
 abbrev pub nine : (ℕ → ℕ) → List ℕ
@@ -56,6 +71,9 @@ nine f = f 0 ∷ f 1 ∷ f 2 ∷ f 3 ∷ f 4 ∷ f 5 ∷ f 6 ∷ f 7 ∷ f 8 ∷
 
 abbrev pub nineZeros : List ℕ
 nineZeros = nine (λ k. 0)
+
+abbrev pub codesOf : List ℕ → List ℕ
+codesOf t = nine (λ k. letterCode (cellLetterOf (getD t k 0)))
 
 abbrev pub accepted : List ℕ → CellsAnswer
 accepted ns = record { answer = Fine; cells = ns }
@@ -78,6 +96,9 @@ abbrev pub answered : List ℕ → List ℕ → List ℕ → CellsAnswer
 answered t taken given = cond (eqb (length t) 9) (afterBad (firstBad goodByte 0 t) taken given) (refused NotNineBytes given)
 
 -- reading: the letters' numbers, or no matrix
+abbrev pub refusedText : Refusal → CellsAnswer
+refusedText r = refused r nineZeros
+
 unfoldable pub readOf : List ℕ → CellsAnswer
 readOf t = answered t (numbersOf t) nineZeros
 

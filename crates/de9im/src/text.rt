@@ -6,55 +6,98 @@ use crate::dimensions::Dimensions;
 use crate::dimensions::dimension;
 use crate::dimensions::number;
 use crate::intersection_matrix::IntersectionMatrix;
+use crate::nine::checked;
+use crate::nine::first_zero;
 use crate::refusal::Refusal;
 ghost use mathlib.Core.Path.{_≡_};
-ghost use Prim.Native.Nat.{max, min};
+ghost use Prim.Native.Nat.{max, min, _-_};
+ghost use lib.ListN.{length, getD};
 ghost use Rattle.de9im.specs.Dimension.{dimNo};
-ghost use Rattle.de9im.specs.Text.{byteOf, cellLetterOf, textOf, readOf, raisedBy, raisedFrom};
+ghost use Rattle.de9im.specs.Text.{byteOf, cellLetterOf, letterCode, codesOf, nine, textOf};
+ghost use Rattle.de9im.specs.Text.{refusedText, readOf, raisedBy, raisedFrom};
 
-// What a byte of a matrix text is.
-pub enum CellLetter {
-    Good(Dimensions),
-    Bad,
-}
-
-// Four good letters; lower case is bad here, and so are 128 and up.
-pub fn cell_letter(byte: u8) -> CellLetter
-    ensures { λ r. ⌜ r ≡ cellLetterOf byte ⌝ }
+// What a byte of a matrix text says: one more than its cell's number, or 0 for a bad byte. Four good letters; lower case is bad here,
+// and so are 128 and up.
+pub fn cell_letter(byte: u8) -> u8
+    ensures { λ r. ⌜ r ≡ letterCode (cellLetterOf byte) ⌝ }
 {
     let b = byte;
     match b {
-        b'0' => CellLetter::Good(Dimensions::ZeroDimensional),
-        b'1' => CellLetter::Good(Dimensions::OneDimensional),
-        b'2' => CellLetter::Good(Dimensions::TwoDimensional),
-        b'F' => CellLetter::Good(Dimensions::Empty),
-        0..=47 => CellLetter::Bad,
-        51..=69 => CellLetter::Bad,
-        71..=127 => CellLetter::Bad,
-        128..=255 => CellLetter::Bad,
+        b'0'..=b'2' => b - 46,
+        b'F' => 1,
+        0..=47 => 0,
+        51..=69 => 0,
+        71..=127 => 0,
+        128..=255 => 0,
     }
 }
 
-// Reads a text. A refused one answers no matrix: nine zeros stand beside the refusal.
+fn nine_letters(text: &[u8]) -> [u8; 9]
+    requires { ⌜ length (now text) ≡ 9 ⌝ }
+    ensures { λ r. ⌜ r ≡ codesOf (now (text .entry)) ⌝ }
+{
+    [
+        cell_letter(text[0]),
+        cell_letter(text[1]),
+        cell_letter(text[2]),
+        cell_letter(text[3]),
+        cell_letter(text[4]),
+        cell_letter(text[5]),
+        cell_letter(text[6]),
+        cell_letter(text[7]),
+        cell_letter(text[8]),
+    ]
+}
+
+// The cell's number of a good letter; a bad one is never asked.
+fn cell_number(letter: u8) -> u8
+    ensures { λ r. ⌜ r ≡ letter - 1 ⌝ }
+{
+    if letter == 0 { 0 } else { letter - 1 }
+}
+
+fn nine_numbers(letters: [u8; 9]) -> Cells
+    ensures { λ r. ⌜ r ≡ nine (λ k. getD letters k 0 - 1) ⌝ }
+{
+    [
+        cell_number(letters[0]),
+        cell_number(letters[1]),
+        cell_number(letters[2]),
+        cell_number(letters[3]),
+        cell_number(letters[4]),
+        cell_number(letters[5]),
+        cell_number(letters[6]),
+        cell_number(letters[7]),
+        cell_number(letters[8]),
+    ]
+}
+
+// No matrix: nine zeros stand beside the refusal.
+fn refused(r: Refusal) -> CellsAnswer
+    ensures { λ x. ⌜ x ≡ refusedText r ⌝ }
+{
+    CellsAnswer {
+        answer: Checked::Refused(r),
+        cells: [0u8; 9],
+    }
+}
+
+// Reads a text. A refused one answers no matrix.
 pub fn from_str(text: &[u8]) -> CellsAnswer
     ensures { λ r. ⌜ r ≡ readOf (now (text .entry)) ⌝ }
 {
-    let mut cells = [0u8; 9];
     if text.len() != 9 {
+        return refused(Refusal::NotNineBytes);
+    }
+    let letters = nine_letters(text);
+    let cells = nine_numbers(letters);
+    let answer = checked(first_zero(letters));
+    let Checked::Fine = answer else {
         return CellsAnswer {
-            answer: Checked::Refused(Refusal::NotNineBytes),
-            cells,
+            answer,
+            cells: [0u8; 9],
         };
-    }
-    for k in 0..9usize {
-        let CellLetter::Good(d) = cell_letter(text[k]) else {
-            return CellsAnswer {
-                answer: Checked::Refused(Refusal::BadByte(k)),
-                cells: [0u8; 9],
-            };
-        };
-        cells[k] = number(d);
-    }
+    };
     CellsAnswer {
         answer: Checked::Fine,
         cells,
