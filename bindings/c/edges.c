@@ -73,10 +73,21 @@ static uint32_t star(const lendings *l) { return misonkandi_star(l->bytes, l->co
 static uint32_t record(const lendings *l) { return misonkandi_record(l->cells, l->bytes, l->count); }
 static uint32_t read_report(const lendings *l) { return misonkandi_read_report(l->cells, l->bytes, l->count); }
 static uint32_t write_report(const lendings *l) { return misonkandi_write_report(l->cells, l->buffer, l->count, 0); }
+static uint32_t write_short(const lendings *l) {
+    return misonkandi_write_short_report(l->cells, l->buffer, l->count, 0);
+}
+static uint32_t convert(const lendings *l) {
+    return misonkandi_convert_report(l->bytes, l->count, l->buffer, l->count, 0);
+}
+/* The long form is written, at the end of the labels' bytes. */
+static uint32_t convert_short(const lendings *l) {
+    return misonkandi_convert_report(l->bytes, l->count, l->labels, 224, 224 - MISONKANDI_REPORT_BYTES);
+}
 
-/* The bytes that a call is given: a text, a predicate's name, ends, a record of a node or of an edge, a report. */
+/* The bytes that a call is given: a text, a predicate's name, ends, a record of a node or of an edge, a report, long or
+ * short. */
 enum { NO_ROW = 8388607 }; /* MISONKANDI_NO_SUCH_ROW, read as a refusal */
-enum given { TEXT, NAME, ENDS, NODE, EDGE, REPORT };
+enum given { TEXT, NAME, ENDS, NODE, EDGE, REPORT, SHORT_REPORT };
 
 static const struct {
     const char *name;
@@ -104,6 +115,10 @@ static const struct {
     {"record, an edge", record, EDGE, 1, 1},
     {"read_report", read_report, REPORT, 1, 1},
     {"write_report", write_report, REPORT, 12, 0},
+    {"read, short", read_report, SHORT_REPORT, 1, 1},
+    {"write_short", write_short, SHORT_REPORT, 12, 0},
+    {"convert", convert, REPORT, 1, 0},
+    {"convert, short", convert_short, SHORT_REPORT, 1, 0},
 };
 enum { CALLS = sizeof calls / sizeof calls[0] };
 
@@ -129,7 +144,8 @@ static size_t write_given(enum given given, uint8_t to[MISONKANDI_MOST_RECORD_BY
     case ENDS: write_ends(to); return 480;
     case NODE: memcpy(to, node, 9); write_ends(to + 9); return 489;
     case EDGE: memcpy(to, edge, 11); return 11;
-    default: memcpy(to, "\0\12\1" "210F21012", 12); return 12;
+    case REPORT: memcpy(to, "\0\12\1" "210F21012", 12); return 12;
+    default: memcpy(to, "\0\4\2" "\3\223\233", 6); return 6; /* 210F21012 */
     }
 }
 
@@ -242,6 +258,63 @@ static void numbers(void) {
     SAME(MISONKANDI_NUMBER(MISONKANDI_NO_SUCH_ROW), 8388607);
 }
 
+/* ---- Reports ---- */
+
+/* Reading and converting refuse alike, converting before it looks for room. */
+static void damaged_reports(void) {
+    static const struct { enum given given; int byte; uint8_t to; unsigned number, place; } damages[] = {
+        {REPORT, 0, 1, MISONKANDI_REFUSAL_SHORT, 0},         {SHORT_REPORT, 1, 5, MISONKANDI_REFUSAL_SHORT, 0},
+        {REPORT, 1, 9, MISONKANDI_REFUSAL_LENGTH, 0},        {SHORT_REPORT, 1, 3, MISONKANDI_REFUSAL_LENGTH, 0},
+        {REPORT, 1, 4, MISONKANDI_REFUSAL_LENGTH, 0},        {SHORT_REPORT, 2, 1, MISONKANDI_REFUSAL_LENGTH, 0},
+        {REPORT, 2, 2, MISONKANDI_REFUSAL_LENGTH, 0},        {SHORT_REPORT, 2, 0, MISONKANDI_REFUSAL_VERSION, 0},
+        {REPORT, 2, 3, MISONKANDI_REFUSAL_VERSION, 0},       {SHORT_REPORT, 3, 4, MISONKANDI_REFUSAL_TOP_BITS, 0},
+        {REPORT, 11, 'T', MISONKANDI_REFUSAL_BAD_BYTE, 8},   {SHORT_REPORT, 3, 131, MISONKANDI_REFUSAL_TOP_BITS, 0},
+    };
+    size_t k;
+    for (k = 0; k < sizeof damages / sizeof damages[0]; k++) {
+        uint8_t cells[9] = MISONKANDI_START, bytes[MISONKANDI_MOST_RECORD_BYTES];
+        size_t whole = write_given(damages[k].given, bytes);
+        bytes[damages[k].byte] = damages[k].to;
+        refused(misonkandi_read_report(cells, bytes, whole), damages[k].number, damages[k].place);
+        SAME(memcmp(cells, start, 9), 0);
+        refused(misonkandi_convert_report(bytes, whole, NULL, 0, 1), damages[k].number, damages[k].place);
+    }
+}
+
+/* One form of a matrix's report, written from its cells and converted from the other form, into a buffer of so many
+ * bytes from one offset: the same bytes and every other one as it was, or refusal 12 and no byte written. */
+static void one_offset(enum given form, size_t room, size_t offset) {
+    uint8_t cells[9], report[MISONKANDI_MOST_RECORD_BYTES], other[MISONKANDI_MOST_RECORD_BYTES];
+    uint8_t meant[32], written[32], converted[32];
+    size_t whole = write_given(form, report), read = write_given(form == REPORT ? SHORT_REPORT : REPORT, other);
+    uint32_t word = 0x80000000u + 256 * MISONKANDI_REFUSAL_NO_ROOM;
+    SAME(misonkandi_read_report(cells, other, read), read);
+    memset(meant, 7, 32), memset(written, 7, 32), memset(converted, 7, 32);
+    if (offset <= room && room - offset >= whole) {
+        memcpy(meant + offset, report, whole);
+        word = (uint32_t)whole;
+    }
+    if (form == REPORT) SAME(misonkandi_write_report(cells, written, room, offset), word);
+    else SAME(misonkandi_write_short_report(cells, written, room, offset), word);
+    SAME(misonkandi_convert_report(other, read, converted, room, offset), word);
+    SAME(memcmp(written, meant, 32), 0);
+    SAME(memcmp(converted, meant, 32), 0);
+}
+
+static void reports(void) {
+    static const size_t large[] = {(size_t)-1, (size_t)-5, (size_t)-6, (size_t)-11, (size_t)-12, ((size_t)-1) / 2 + 1};
+    size_t room, offset, k;
+    damaged_reports();
+    for (room = 0; room <= 26; room++) {
+        for (offset = 0; offset <= room + 1; offset++)
+            one_offset(REPORT, room, offset), one_offset(SHORT_REPORT, room, offset);
+        for (k = 0; k < sizeof large / sizeof large[0]; k++)
+            one_offset(REPORT, room, large[k]), one_offset(SHORT_REPORT, room, large[k]);
+    }
+}
+
+/* ---- Larger numbers ---- */
+
 /* Cells above 3: read as 2, written as 3 by every accepted call that writes cells, and left by a refused one. */
 static void larger(void) {
     int k;
@@ -259,6 +332,11 @@ static void larger(void) {
         uint8_t cells[9] = MISONKANDI_START;
         misonkandi_set(cells, MISONKANDI_ON_BOUNDARY, MISONKANDI_OUTSIDE, 4);
         SAME(cells[MISONKANDI_BE], MISONKANDI_DIMENSION_2);
+    }
+    {
+        uint8_t cells[9] = {250, 4, 3, 2, 1, 0, 255, 128, 3}, buffer[MISONKANDI_SHORT_REPORT_BYTES];
+        SAME(misonkandi_write_short_report(cells, buffer, MISONKANDI_SHORT_REPORT_BYTES, 0), 6);
+        SAME(memcmp(buffer, "\0\4\2" "\3\371\77", 6), 0);
     }
 }
 
@@ -309,7 +387,7 @@ static void stack(void) {
         here = depth(k, &l);
         printf("%-16s %4lu bytes of stack\n", calls[k].name, (unsigned long)here);
         if (here > deepest) deepest = here, which = k;
-        if (calls[k].given < ENDS || calls[k].given == REPORT) same(calls[k].name, here < 256, 1);
+        if (calls[k].given < ENDS || calls[k].given >= REPORT) same(calls[k].name, here < 256, 1);
     }
     printf("deepest: %s\n", calls[which].name);
     SAME(deepest < MISONKANDI_STACK_BYTES, 1);
@@ -319,6 +397,7 @@ int main(void) {
     all_counts();
     nulls();
     numbers();
+    reports();
     larger();
     stack();
     puts(wrong ? "the header is wrong" : "the library does what the header says at its edges");

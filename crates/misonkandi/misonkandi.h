@@ -5,8 +5,8 @@
  * Every function of the library is proved to answer what its contract says, for all bytes and numbers that it can be
  * given; this header says the same in words. Two duties are left to the caller:
  *
- *   - A pointer leads to as many bytes as its parameter says, or to `count` bytes. Where `count` is 0 the pointer is
- *     not used and may be NULL; no other may.
+ *   - A pointer leads to as many bytes as its parameter says, or to `count` bytes, or `room`. Where that is 0 the
+ *     pointer is not used and may be NULL; no other may.
  *   - What a call writes overlaps nothing else that the call is lent: the proofs don't cover that. Two that are only
  *     read may overlap.
  *
@@ -57,9 +57,9 @@ extern "C" {
 
 enum misonkandi_refusals {
     MISONKANDI_REFUSAL_SHORT = 1,           /* fewer bytes than the length field needs or promises */
-    MISONKANDI_REFUSAL_VERSION = 2,         /* version not 1 */
+    MISONKANDI_REFUSAL_VERSION = 2,         /* version not 1; of a report neither 1 nor 2 */
     MISONKANDI_REFUSAL_KIND = 3,            /* record kind not 1 or 2 */
-    MISONKANDI_REFUSAL_LENGTH = 4,          /* length wrong for its kind, or for a report; ends that are not whole */
+    MISONKANDI_REFUSAL_LENGTH = 4,          /* length wrong for its kind or a report's version; ends not whole */
     MISONKANDI_REFUSAL_ENDS = 5,            /* more than 32 ends */
     MISONKANDI_REFUSAL_POSITION_CODE = 6,   /* position code above 3, or none where a node lies */
     MISONKANDI_REFUSAL_LABEL_KIND = 7,      /* label kind above 1, or a line label with a side */
@@ -67,8 +67,9 @@ enum misonkandi_refusals {
     MISONKANDI_REFUSAL_MISSING_LEFT = 9,    /* for A or for B, some area bundle has a left and some only a right */
     MISONKANDI_REFUSAL_NOT_NINE_BYTES = 10, /* text or pattern not nine bytes */
     MISONKANDI_REFUSAL_BAD_BYTE = 11,       /* bad byte in a text, pattern or report; the place is the first one's */
-    MISONKANDI_REFUSAL_NO_ROOM = 12,        /* offset beyond the buffer, or fewer than 12 bytes from it */
-    MISONKANDI_REFUSAL_NOT_A_PLACE = 13     /* coordinate not finite, box without min < max on an axis, kind above 1 */
+    MISONKANDI_REFUSAL_NO_ROOM = 12,        /* offset beyond the buffer, or fewer bytes from it than are written */
+    MISONKANDI_REFUSAL_NOT_A_PLACE = 13,    /* coordinate not finite, box without min < max on an axis, kind above 1 */
+    MISONKANDI_REFUSAL_TOP_BITS = 14        /* one of the top six bits of a short report's cells set */
 };
 
 /* ---- The matrix ----
@@ -274,16 +275,41 @@ uint32_t misonkandi_record(uint8_t cells[9], const uint8_t *bytes, size_t count)
 
 /* ---- Stored reports ----
  *
- * A report is a matrix to be kept: 0, 10 (how many bytes follow), 1 (the version), and its nine letters.
+ * A report is a matrix to be kept, in a long form or in a short one.
+ *
+ *   The long form:                                       The short form:
+ *   0, 1     length: how many bytes follow, 0, 10        0, 1  length, 0, 4
+ *   2        version, 1                                  2     version, 2
+ *   3 to 11  the nine letters                            3     the top six bits 0, then II
+ *                                                        4     IB, IE, BI, BB
+ *                                                        5     BE, EI, EB, EE
+ *
+ * In the short form a cell is two bits, 0 to 3 for F, 0, 1, 2, the first cell of a byte in its highest. So bytes 3 to
+ * 5 are a number, high byte first, and its low 18 bits are the nine cells from II down to EE.
+ *
+ * Reading takes both. Checked in this order: 1; a length neither 4 nor 10 is 4; a version neither 1 nor 2 is 2; a
+ * length that isn't its version's (10 with 1, 4 with 2) is 4; then of a long form 11, its place a letter's, 0 to 8; of
+ * a short one 14, a bit set among the top six.
  */
 #define MISONKANDI_REPORT_BYTES 12
+#define MISONKANDI_SHORT_REPORT_BYTES 6
 
-/* Reads a report: 12, the bytes used, and the cells written; or a refusal, looked for in the order 1, 4, 2, 11 (its
- * place is a letter's, 0 to 8). Bytes after it don't matter. */
+/* Reads a report of either form: the bytes used, 12 or 6, and the cells written; or refusal 1, 2, 4, 11 or 14. Bytes
+ * after it don't matter. */
 uint32_t misonkandi_read_report(uint8_t cells[9], const uint8_t *bytes, size_t count);
 
-/* Writes a report into a buffer of `count` bytes from `offset` on: 12, every other byte as it was; or refusal 12. */
+/* Writes the long form into a buffer of `count` bytes from `offset` on: 12, every other byte as it was; or refusal 12
+ * if the offset lies beyond the buffer or fewer than twelve bytes follow it. */
 uint32_t misonkandi_write_report(const uint8_t cells[9], uint8_t *buffer, size_t count, size_t offset);
+
+/* Writes the short form into a buffer of `room` bytes from `offset` on: 6, every other byte as it was; or refusal 12
+ * if the offset lies beyond the buffer or fewer than six bytes follow it. */
+uint32_t misonkandi_write_short_report(const uint8_t cells[9], uint8_t *buffer, size_t room, size_t offset);
+
+/* Reads a report of either form and writes the other one into a buffer of `room` bytes from `offset` on: the bytes
+ * written, 6 or 12 (of the report 12 or 6 are used), every other byte as it was. Or a refusal: reading's, then 12 as
+ * above, by the length of the form that is written. Converting back gives the report's bytes again. */
+uint32_t misonkandi_convert_report(const uint8_t *bytes, size_t count, uint8_t *buffer, size_t room, size_t offset);
 
 #ifdef __cplusplus
 }

@@ -55,8 +55,8 @@ static void answer(const uint8_t *from, uint8_t *to)
         to[i] = (uint8_t)(word >> 8 * i);
 }
 
-static uint32_t plan_call(uint8_t operation, uint32_t a, uint32_t b, size_t offset, uint8_t *out, uint8_t *bytes,
-                          size_t count)
+static uint32_t plan_call(uint8_t operation, uint32_t a, uint32_t b, size_t offset, uint8_t *out, size_t out_count,
+                          uint8_t *bytes, size_t count)
 {
     switch (operation) {
     case 0: return misonkandi_bundle(bytes, count, out);
@@ -64,6 +64,8 @@ static uint32_t plan_call(uint8_t operation, uint32_t a, uint32_t b, size_t offs
     case 2: return misonkandi_record(out, bytes, count);
     case 3: return misonkandi_read_report(out, bytes, count);
     case 4: return misonkandi_write_report(out, bytes, count, offset);
+    case 5: return misonkandi_write_short_report(out, bytes, count, offset);
+    case 6: return misonkandi_convert_report(bytes, count, out, out_count, offset);
     }
     end(6);
     return 0;
@@ -76,7 +78,7 @@ static uint8_t *answer_plan(uint8_t *at)
     size_t out_count = word_at(at + 17), count = word_at(at + 21);
     uint8_t *out = at + PLAN_HEAD + PLAN_GUARD;
     uint8_t *bytes = out + out_count + PLAN_GUARD;
-    uint32_t word = plan_call(at[0], word_at(at + 1), word_at(at + 5), offset, out, bytes, count);
+    uint32_t word = plan_call(at[0], word_at(at + 1), word_at(at + 5), offset, out, out_count, bytes, count);
     for (int i = 0; i < 4; i++)
         at[1 + i] = (uint8_t)(word >> 8 * i);
     return bytes + count + PLAN_GUARD;

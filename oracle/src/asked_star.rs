@@ -63,7 +63,10 @@ pub fn said(call: &PlanCall) -> Option<PlanSaid> {
                 Ok((used, asked::cells(&matrix).to_vec()))
             })
         }
-        PlanOp::ReadReport | PlanOp::WriteReport => return None,
+        PlanOp::ReadReport
+        | PlanOp::WriteReport
+        | PlanOp::WriteShortReport
+        | PlanOp::ConvertReport => return None,
     };
     Some(match answer {
         Some(Ok((word, out))) => PlanSaid::Gave { word, out },

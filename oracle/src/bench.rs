@@ -294,4 +294,7 @@ pub fn main() {
     let texts = inputs(random, |random, _| good_text(random));
     measure_text_in("text in", &texts);
     bench_plans::measure_all(random);
+    if THERE {
+        bench_plans::measure_reports(random);
+    }
 }

@@ -1,8 +1,9 @@
-//! The lines of stars and plan records.
+//! The lines of stars, plan records and stored reports.
 //!
 //! Records: from bytes to the poured matrix on both sides; the crate's side reads the same bytes, with the same checks,
 //! straight into the crate's own types. Nodes: a star built, completed and poured; stars: the completed labels. In both the
-//! crate's side is given its ends already read, ours reads them from bytes.
+//! crate's side is given its ends already read, ours reads them from bytes. Reports: a file of them converted, both ways;
+//! the crate has none, so ours stands alone.
 
 use crate::asked;
 use crate::asked_star::{self, code_position, completed, graph, ready_ends};
@@ -13,6 +14,8 @@ use crate::random::Random;
 use crate::relate::geomgraph::intersection_matrix::IntersectionMatrix;
 use crate::relate::geomgraph::{EdgeEnd, GeometryGraph};
 use crate::rule_plan;
+use crate::rule_report::{LONG_BYTES, SHORT_BYTES, long, short};
+use std::time::Instant;
 
 #[cfg(linked)]
 use crate::ours::linked;
@@ -27,10 +30,18 @@ mod linked {
     pub fn star(_: &[u8], _: u32, _: u32, _: &mut [u8; 224]) -> u32 {
         unreachable!()
     }
+
+    pub fn convert_report(_: &[u8], _: &mut [u8], _: usize) -> u32 {
+        unreachable!()
+    }
 }
 
 /// A star has many branches of its own, so that fewer of them than of matrices can't be learnt by heart either.
 pub(crate) const INPUTS: usize = 2048;
+
+/// In a file; its rounds.
+const REPORTS: usize = 1 << 18;
+const REPORT_ROUNDS: usize = 60;
 
 const SIZES: [usize; 3] = [4, 8, 32];
 const START: [u8; 9] = [0, 0, 0, 0, 0, 0, 0, 0, 3];
@@ -153,4 +164,50 @@ fn measure_stars(name: &str, nodes: &[Node]) {
             (due.word, due.out.try_into().expect("224 bytes"))
         },
     );
+}
+
+/// Converts a whole file into another, report by report, each call lent all that is left. It answers the bytes read.
+#[inline(never)]
+fn convert_file(from: &[u8], to: &mut [u8]) -> usize {
+    let (mut read, mut written) = (0, 0);
+    while written < to.len() {
+        let bytes = linked::convert_report(&from[read..], to, written) as usize;
+        written += bytes;
+        read += LONG_BYTES + SHORT_BYTES - bytes;
+    }
+    read
+}
+
+/// Best of the rounds. MB are 1,000,000 bytes of the file that is read.
+fn measure_file(name: &str, from: &[u8], right: &[u8]) {
+    let mut to = vec![0; right.len()];
+    let mut best = f64::MAX;
+    for _ in 0..REPORT_ROUNDS {
+        let begun = Instant::now();
+        let read = convert_file(from, &mut to);
+        best = best.min(begun.elapsed().as_secs_f64());
+        assert_eq!(read, from.len(), "{name}: not every report is accepted");
+    }
+    assert!(
+        to == right,
+        "{name}: the library's bytes aren't request R-3's"
+    );
+    let speed = from.len() as f64 / best / 1e6;
+    let each = best * 1e9 / REPORTS as f64;
+    println!("| {name} | {speed:.0} | {each:.2} |");
+}
+
+/// A table of its own.
+pub(crate) fn measure_reports(random: &mut Random) {
+    let matrices: Vec<_> = (0..REPORTS).map(|_| random.cells()).collect();
+    let long: Vec<u8> = matrices.iter().flat_map(long).collect();
+    let short: Vec<u8> = matrices.iter().flat_map(short).collect();
+    println!();
+    println!("A file of {REPORTS} stored reports converted, best of {REPORT_ROUNDS} rounds.");
+    println!("The crate has no reports: ours stands alone, without a ratio.");
+    println!();
+    println!("| call | MB/s of the file read | ns a report |");
+    println!("|---|---:|---:|");
+    measure_file("reports of twelve bytes to six", &long, &short);
+    measure_file("reports of six bytes to twelve", &short, &long);
 }

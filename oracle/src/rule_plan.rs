@@ -1,8 +1,9 @@
-//! Document 01's rules for plan records and stored reports, and what each call on ends, records and reports must
-//! answer.
+//! Document 01's rules for plan records, and what each call on ends, records and reports must answer. The rules for
+//! reports stand in rule_report.rs.
 
 use crate::ours::plans::{LABELS, PlanCall, PlanOp};
 use crate::rule::{self, BAD_CODE, refusal};
+use crate::rule_report;
 use crate::rule_star::{
     self, LABEL_BYTES, Label, MOST_ENDS, Position, TOO_MANY_ENDS, WRONG_LENGTH, pour_label,
     pour_node,
@@ -11,17 +12,16 @@ use crate::rule_star::{
 pub const TOO_FEW_BYTES: u32 = refusal(1);
 pub const BAD_VERSION: u32 = refusal(2);
 pub const BAD_KIND: u32 = refusal(3);
-pub const NO_ROOM: u32 = refusal(12);
-
-pub const REPORT_BYTES: usize = 12;
 
 /// The numbers that each function can give: a run that doesn't meet all of them has looked at too little.
-pub const REACHABLE: [(PlanOp, &[u32]); 5] = [
+pub const REACHABLE: [(PlanOp, &[u32]); 7] = [
     (PlanOp::Bundle, &[4, 5, 6, 7, 8]),
     (PlanOp::Star, &[4, 5, 6, 7, 8, 9]),
     (PlanOp::Record, &[1, 2, 3, 4, 5, 6, 7, 8, 9]),
-    (PlanOp::ReadReport, &[1, 2, 4, 11]),
+    (PlanOp::ReadReport, &[1, 2, 4, 11, 14]),
     (PlanOp::WriteReport, &[12]),
+    (PlanOp::WriteShortReport, &[12]),
+    (PlanOp::ConvertReport, &[1, 2, 4, 11, 12, 14]),
 ];
 
 /// What a call must answer, and every byte that it was lent, afterwards.
@@ -37,8 +37,10 @@ pub fn outcome(call: &PlanCall) -> PlanOutcome {
         PlanOp::Bundle => written(call, bundle(&call.bytes)),
         PlanOp::Star => written(call, star(&call.bytes, call.a, call.b)),
         PlanOp::Record => used(call, record(&call.cells(), &call.bytes)),
-        PlanOp::ReadReport => used(call, read_report(&call.bytes)),
-        PlanOp::WriteReport => write_report(call),
+        PlanOp::ReadReport => used(call, rule_report::read(&call.bytes)),
+        PlanOp::WriteReport => put(call, &rule_report::long(&call.cells())),
+        PlanOp::WriteShortReport => put(call, &rule_report::short(&call.cells())),
+        PlanOp::ConvertReport => written(call, convert(call)),
     }
 }
 
@@ -87,7 +89,7 @@ fn star(bytes: &[u8], a: u32, b: u32) -> Result<(u32, Vec<u8>), u32> {
 }
 
 /// The bytes that a length field promises, after it: "fewer bytes than the length field needs or promises".
-fn promised(bytes: &[u8]) -> Result<&[u8], u32> {
+pub fn promised(bytes: &[u8]) -> Result<&[u8], u32> {
     let [high, low, rest @ ..] = bytes else {
         return Err(TOO_FEW_BYTES);
     };
@@ -151,43 +153,22 @@ fn pour_edge_record(cells: &mut [u8; 9], body: &[u8]) -> Result<(), u32> {
     Ok(())
 }
 
-/// "Report: 1, 4, 2, 11."
-fn read_report(bytes: &[u8]) -> Result<(u32, [u8; 9]), u32> {
-    let [version, text @ ..] = promised(bytes)? else {
-        return Err(WRONG_LENGTH);
-    };
-    if text.len() != 9 {
-        return Err(WRONG_LENGTH);
+/// A report written into the buffer.
+fn put(call: &PlanCall, report: &[u8]) -> PlanOutcome {
+    match rule_report::written(&call.bytes, report, call.offset) {
+        Ok((word, bytes)) => PlanOutcome {
+            word,
+            out: call.out.clone(),
+            bytes,
+        },
+        Err(word) => refused(call, word),
     }
-    if *version != 1 {
-        return Err(BAD_VERSION);
-    }
-    Ok((REPORT_BYTES as u32, rule::letters(text)?))
 }
 
-/// The twelve bytes of a matrix's stored report.
-pub fn report(cells: &[u8; 9]) -> [u8; REPORT_BYTES] {
-    let mut report = *b"\x00\x0A\x01.........";
-    report[3..].copy_from_slice(&rule::text(cells));
-    report
-}
-
-/// "offset beyond the buffer, or fewer than 12 bytes from it"
-fn write_report(call: &PlanCall) -> PlanOutcome {
-    let mut bytes = call.bytes.clone();
-    let from_offset = usize::try_from(call.offset)
-        .ok()
-        .and_then(|offset| bytes.get_mut(offset..))
-        .and_then(|part| part.get_mut(..REPORT_BYTES));
-    let Some(room) = from_offset else {
-        return refused(call, NO_ROOM);
-    };
-    room.copy_from_slice(&report(&call.cells()));
-    PlanOutcome {
-        word: REPORT_BYTES as u32,
-        out: call.out.clone(),
-        bytes,
-    }
+/// "Converting takes either version and writes from an offset: those, then 12."
+fn convert(call: &PlanCall) -> Result<(u32, Vec<u8>), u32> {
+    let report = rule_report::converted(&call.bytes)?;
+    rule_report::written(&call.out, &report, call.offset)
 }
 
 #[cfg(test)]

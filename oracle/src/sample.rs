@@ -14,6 +14,7 @@ use crate::random::Random;
 use crate::rule::{self, Outcome};
 use crate::sample_line::{self, Case};
 use crate::sample_plans;
+use crate::sample_reports;
 use crate::sample_verdicts;
 
 /// Never another one: the file must come out the same every time.
@@ -67,6 +68,7 @@ pub fn main() {
     }
     lines.push_str(sample_plans::HEAD);
     plans.extend(sample_plans::more_calls());
+    plans.extend(sample_reports::calls());
     sample_plans::write_lines(&mut lines, &plans);
     print!("{lines}");
 }

@@ -17,6 +17,8 @@ pub struct Case<'a> {
 
 /// The most bytes that replay takes as given.
 pub const MOST_GIVEN: usize = 600;
+/// The most of a report and a buffer together.
+pub const MOST_CONVERTED: usize = 100;
 
 pub const HEAD: &str = "\
 # Stored answers for the C interface, a case to a line; our library was asked for none of them.

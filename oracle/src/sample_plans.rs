@@ -7,9 +7,10 @@ use crate::plan_pieces::{
 };
 use crate::random::Random;
 use crate::rule;
-use crate::rule_plan::{self, PlanOutcome, REACHABLE, report};
+use crate::rule_plan::{self, PlanOutcome, REACHABLE};
+use crate::rule_report::long;
 use crate::rule_star::SINGLE_SIDE;
-use crate::sample_line::{Case, MOST_GIVEN};
+use crate::sample_line::{Case, MOST_CONVERTED, MOST_GIVEN};
 
 /// The most bytes of the small records, and the most ends of the small stars.
 const SMALL_RECORD: usize = 64;
@@ -19,12 +20,13 @@ const SEED: u64 = 7;
 
 pub const HEAD: &str = "\
 # B misonkandi_bundle, K misonkandi_star, the ends given, a and b the area codes; what they may write holds nines before.
-# N misonkandi_record, the record given. D misonkandi_read_report, the report given. E misonkandi_write_report, the buffer
-# given, the offset a times 2^32 plus b.
+# N misonkandi_record, the record given. D misonkandi_read_report, the report given. E misonkandi_write_report and
+# F misonkandi_write_short_report, the buffer given, the offset a times 2^32 plus b. C misonkandi_convert_report, the report
+# and then the buffer given, the dimension the count of the report's bytes, the offset as before; both are due.
 # B, K, N: joining, completing and raising are the crate's edge_end_bundle.rs, edge_end_bundle_star.rs, label.rs,
 # topology_position.rs and intersection_matrix.rs, compiled unchanged; its panic is refusal 9. Document 01 alone gives
 # the reading of bytes, the other refusals, the direction order, the parity of boundary counts, and which cells one label
-# and a node raise. D, E: document 01 alone (oracle/src/rule_plan.rs); the crate has no reports.
+# and a node raise. D, E, F, C: document 01 and request R-3 alone (oracle/src/rule_report.rs); the crate has no reports.
 ";
 
 /// About 900 records and 600 stars of few ends.
@@ -223,18 +225,18 @@ fn bundles(random: &mut Random) -> Vec<PlanCall> {
 fn reports_read(random: &mut Random) -> Vec<PlanCall> {
     let mut reports = Vec::new();
     for number in 0..60 {
-        let mut bytes = report(&random.cells()).to_vec();
+        let mut bytes = long(&random.cells()).to_vec();
         if number % 2 == 0 {
             bytes = with_bytes_after(random, bytes);
         }
         reports.push(bytes);
     }
-    let whole = report(&random.cells());
+    let whole = long(&random.cells());
     reports.extend((0..whole.len()).map(|count| whole[..count].to_vec()));
     let faults = [0, 1, 2, 9, 10, 11, b'F', b'f', b'T', b'3', b'*', 200];
     for place in 0..12 {
         for fault in faults {
-            let mut bytes = report(&random.cells()).to_vec();
+            let mut bytes = long(&random.cells()).to_vec();
             bytes[place] = fault;
             if random.below(4) == 0 {
                 bytes.resize(300, b'F');
@@ -282,7 +284,7 @@ fn outcome(call: &PlanCall) -> PlanOutcome {
     let agrees = match asked_star::said(call) {
         Some(PlanSaid::Gave { word, out }) => word == due.word && out == due.out,
         Some(PlanSaid::Panicked) => due.word == SINGLE_SIDE,
-        None => matches!(call.op, PlanOp::ReadReport | PlanOp::WriteReport),
+        None => !matches!(call.op, PlanOp::Bundle | PlanOp::Star | PlanOp::Record),
     };
     assert!(agrees, "the crate and document 01 differ: {call:?}");
     due
@@ -295,6 +297,8 @@ fn letter(op: PlanOp) -> char {
         PlanOp::Record => 'N',
         PlanOp::ReadReport => 'D',
         PlanOp::WriteReport => 'E',
+        PlanOp::WriteShortReport => 'F',
+        PlanOp::ConvertReport => 'C',
     }
 }
 
@@ -313,20 +317,30 @@ pub fn write_lines(lines: &mut String, calls: &[PlanCall]) {
 }
 
 fn write_line(lines: &mut String, call: &PlanCall, due: &PlanOutcome) {
-    let on_cells = !matches!(call.op, PlanOp::Bundle | PlanOp::Star);
-    let writes = call.op == PlanOp::WriteReport;
-    let case = Case {
-        cells: if on_cells { call.cells() } else { [0; 9] },
+    let mut case = Case {
         word: due.word,
-        a: if writes {
-            (call.offset >> 32) as u32
-        } else {
-            call.a
-        },
-        b: if writes { call.offset as u32 } else { call.b },
+        a: (call.offset >> 32) as u32,
+        b: call.offset as u32,
         given: &call.bytes,
-        due: if writes { &due.bytes } else { &due.out },
+        due: &due.out,
         ..Case::default()
     };
+    // Converting is lent a report and a buffer: the one after the other.
+    let both = [&call.bytes[..], &call.out].concat();
+    let both_due = [&due.bytes[..], &due.out].concat();
+    match call.op {
+        PlanOp::Bundle | PlanOp::Star => (case.a, case.b) = (call.a, call.b),
+        PlanOp::Record | PlanOp::ReadReport => case.cells = call.cells(),
+        PlanOp::WriteReport | PlanOp::WriteShortReport => {
+            case.cells = call.cells();
+            case.due = &due.bytes;
+        }
+        PlanOp::ConvertReport => {
+            assert!(both.len() <= MOST_CONVERTED, "too long for replay");
+            case.dimension = call.bytes.len() as u8;
+            case.given = &both;
+            case.due = &both_due;
+        }
+    }
     case.write(lines, letter(call.op));
 }

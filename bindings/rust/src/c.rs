@@ -67,6 +67,19 @@ mod declared {
             count: usize,
             offset: usize,
         ) -> u32;
+        pub fn misonkandi_write_short_report(
+            cells: &[u8; 9],
+            buffer: *mut u8,
+            room: usize,
+            offset: usize,
+        ) -> u32;
+        pub fn misonkandi_convert_report(
+            bytes: *const u8,
+            count: usize,
+            buffer: *mut u8,
+            room: usize,
+            offset: usize,
+        ) -> u32;
     }
 }
 
@@ -134,4 +147,17 @@ pub fn write_report(cells: &[u8; 9], buffer: &mut [u8], offset: usize) -> u32 {
     let (start, count) = (buffer.as_mut_ptr(), buffer.len());
     // SAFETY: pointer and count are those of one slice, lent to nobody else until the call ends; the cells lie elsewhere.
     unsafe { declared::misonkandi_write_report(cells, start, count, offset) }
+}
+
+pub fn write_short_report(cells: &[u8; 9], buffer: &mut [u8], offset: usize) -> u32 {
+    let (start, room) = (buffer.as_mut_ptr(), buffer.len());
+    // SAFETY: pointer and count are those of one slice, lent to nobody else until the call ends; the cells lie elsewhere.
+    unsafe { declared::misonkandi_write_short_report(cells, start, room, offset) }
+}
+
+pub fn convert_report(bytes: &[u8], buffer: &mut [u8], offset: usize) -> u32 {
+    let (start, room) = (buffer.as_mut_ptr(), buffer.len());
+    // SAFETY: each pointer and count are those of one slice. The bytes are lent to be read until the call ends, the
+    // buffer is lent to nobody else until then, and so lies elsewhere.
+    unsafe { declared::misonkandi_convert_report(bytes.as_ptr(), bytes.len(), start, room, offset) }
 }

@@ -41,15 +41,17 @@ mod positions;
 mod predicate;
 mod record;
 mod refusal;
+mod report;
 mod star;
 mod verdict;
 
-pub use matrix::{IntersectionMatrix, REPORT_BYTES};
+pub use matrix::IntersectionMatrix;
 pub use place::{Coord, Place, relate_coded};
 pub use positions::{CoordPos, Dimensions};
 pub use predicate::{NoSuchPredicate, Predicate};
 pub use record::{MOST_RECORD_BYTES, Record};
 pub use refusal::{InvalidInputError, Refusal};
+pub use report::{REPORT_BYTES, SHORT_REPORT_BYTES, convert_report};
 pub use star::{END_BYTES, EdgeEnd, LABEL_BYTES, Label, MOST_ENDS, Sides, bundle, bundle_of_bytes};
 #[cfg(feature = "alloc")]
 pub use star::{star, star_of_bytes};

@@ -31,9 +31,6 @@ pub struct IntersectionMatrix {
     cells: [u8; 9],
 }
 
-/// A stored report's twelve bytes.
-pub const REPORT_BYTES: usize = 12;
-
 impl IntersectionMatrix {
     /// FFFFFFFFF, as in geo.
     #[must_use]
@@ -270,7 +267,7 @@ impl IntersectionMatrix {
     }
 }
 
-/// Plan records and stored reports.
+/// Plan records.
 impl IntersectionMatrix {
     /// Pours one plan record into the matrix, and answers the bytes that it used: 2 + its length. Bytes after it don't
     /// matter, so the next record stands there.
@@ -290,34 +287,6 @@ impl IntersectionMatrix {
     /// ```
     pub fn pour_record(&mut self, bytes: &[u8]) -> Result<usize, Refusal> {
         answered(c::record(&mut self.cells, bytes)).map(|used| used as usize)
-    }
-
-    /// Reads a stored report: the matrix, and the twelve bytes used. Later bytes don't matter.
-    ///
-    /// Refused: 1, 4, 2, 11, in this order. Promised: `readReport`, crates/plan/specs/Report.antt.
-    pub fn read_report(bytes: &[u8]) -> Result<(Self, usize), Refusal> {
-        let mut cells = [0; 9];
-        let used = answered(c::read_report(&mut cells, bytes))?;
-        Ok((IntersectionMatrix { cells }, used as usize))
-    }
-
-    /// Writes a stored report into the buffer from an offset on, and answers the twelve bytes used; every other byte of the
-    /// buffer stays.
-    ///
-    /// Refused: 12 where the offset lies beyond the buffer or fewer than twelve bytes follow it, and no byte changed.
-    /// Promised: `wroteOf`, `writtenOf`, crates/plan/specs/Report.antt; reading it gives the matrix again
-    /// (`report-read-written`, crates/plan/proofs/LawsReportTrip.antt).
-    pub fn write_report(&self, buffer: &mut [u8], offset: usize) -> Result<usize, Refusal> {
-        answered(c::write_report(&self.cells, buffer, offset)).map(|used| used as usize)
-    }
-
-    /// The report as twelve bytes.
-    #[must_use]
-    pub fn report(&self) -> [u8; REPORT_BYTES] {
-        let mut bytes = [0; REPORT_BYTES];
-        let word = c::write_report(&self.cells, &mut bytes, 0);
-        debug_assert_eq!(word as usize, REPORT_BYTES);
-        bytes
     }
 }
 

@@ -1,4 +1,4 @@
-//! Why a call was refused: document 01's thirteen numbers.
+//! Why a call was refused: document 01's thirteen numbers, and request R-3's.
 
 use core::error::Error;
 use core::fmt;
@@ -7,20 +7,21 @@ use crate::c;
 
 /// Why a call was refused. A refused call changes nothing that it was lent.
 ///
-/// The numbers are those of document 01's table "Numbers the caller sees". Under which condition each is given, and in
-/// which order they are looked at, is proved of the operation that gives it: `crates/de9im/specs/Patterns.antt` and
-/// `Text.antt` for 10 and 11, `crates/plan/specs/Record.antt` and `Report.antt` for records and reports,
-/// `crates/star/specs/Calls.antt` for ends, `crates/place/specs/Relate.antt` for 13.
+/// The numbers are those of document 01's table "Numbers the caller sees", and 14 is request R-3's of document 02. Under
+/// which condition each is given, and in which order they are looked at, is proved of the operation that gives it:
+/// `crates/de9im/specs/Patterns.antt` and `Text.antt` for 10 and 11, `crates/plan/specs/Record.antt` for records,
+/// `crates/report/specs/Report.antt` and `Converting.antt` for reports, `crates/star/specs/Calls.antt` for ends,
+/// `crates/place/specs/Relate.antt` for 13.
 #[derive(Clone, Copy, Debug, PartialEq, Eq, Hash)]
 #[non_exhaustive]
 pub enum Refusal {
     /// 1: fewer bytes than the length field needs or promises.
     Short,
-    /// 2: version not 1.
+    /// 2: version not 1; of a report neither 1 nor 2.
     Version,
     /// 3: kind not 1 or 2.
     Kind,
-    /// 4: length wrong for its kind, or for a report; of ends, bytes that are no whole ends.
+    /// 4: length wrong for its kind, or for a report or its version; of ends, bytes that are no whole ends.
     Length,
     /// 5: more than 32 ends.
     Ends,
@@ -36,10 +37,12 @@ pub enum Refusal {
     NotNineBytes,
     /// 11: a bad byte in a text, pattern or report, with the first one's place, 0 to 8.
     BadByte(usize),
-    /// 12: offset beyond the buffer, or fewer than 12 bytes from it.
+    /// 12: offset beyond the buffer, or fewer bytes from it than are written.
     NoRoom,
     /// 13: a coordinate not finite, or a box without min < max on both axes.
     NotAPlace,
+    /// 14: one of the top six bits of a short report's cells is set.
+    TopBits,
 }
 
 /// The name of geo's error of `matches` and `from_str`. Here it is the refusal, which has a number and a place where
@@ -47,7 +50,7 @@ pub enum Refusal {
 pub type InvalidInputError = Refusal;
 
 impl Refusal {
-    /// Document 01's number, 1 to 13.
+    /// Its number, 1 to 14.
     #[must_use]
     pub const fn number(self) -> u32 {
         match self {
@@ -64,6 +67,7 @@ impl Refusal {
             Refusal::BadByte(_) => 11,
             Refusal::NoRoom => 12,
             Refusal::NotAPlace => 13,
+            Refusal::TopBits => 14,
         }
     }
 
@@ -93,6 +97,7 @@ impl Refusal {
             11 => Refusal::BadByte((word % 256) as usize),
             12 => Refusal::NoRoom,
             13 => Refusal::NotAPlace,
+            14 => Refusal::TopBits,
             _ => unreachable!("the library is proved to give no such word: {word}"),
         }
     }
@@ -100,9 +105,9 @@ impl Refusal {
     const fn words(self) -> &'static str {
         match self {
             Refusal::Short => "fewer bytes than the length field needs or promises",
-            Refusal::Version => "version not 1",
+            Refusal::Version => "version not 1, or of a report neither 1 nor 2",
             Refusal::Kind => "kind not 1 or 2",
-            Refusal::Length => "length wrong for its kind",
+            Refusal::Length => "length wrong for its kind or version",
             Refusal::Ends => "more than 32 ends",
             Refusal::PositionCode => "position code above 3, or node position 0",
             Refusal::LabelKind => "label kind above 1, or a line label with a side",
@@ -110,8 +115,9 @@ impl Refusal {
             Refusal::MissingLeft => "an area bundle with a right and no left",
             Refusal::NotNineBytes => "not nine bytes",
             Refusal::BadByte(_) => "bad byte",
-            Refusal::NoRoom => "no room for twelve bytes from the offset",
+            Refusal::NoRoom => "no room from the offset",
             Refusal::NotAPlace => "a coordinate not finite, or a box without min < max",
+            Refusal::TopBits => "a top bit of a short report's cells set",
         }
     }
 }

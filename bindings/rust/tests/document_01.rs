@@ -300,7 +300,7 @@ fn reports_and_their_room() {
         Err(Refusal::Length)
     );
     assert_eq!(
-        IntersectionMatrix::read_report(b"\x00\x0a\x02212101212"),
+        IntersectionMatrix::read_report(b"\x00\x0a\x03212101212"),
         Err(Refusal::Version)
     );
     assert_eq!(

@@ -5,7 +5,7 @@ use std::fs;
 
 use misonkandi::{
     CoordPos, Dimensions, END_BYTES, LABEL_BYTES, MOST_ENDS, MOST_RECORD_BYTES, NoSuchPredicate,
-    Predicate, REPORT_BYTES, Refusal,
+    Predicate, REPORT_BYTES, Refusal, SHORT_REPORT_BYTES,
 };
 
 const FOLDER: &str = env!("CARGO_MANIFEST_DIR");
@@ -63,7 +63,7 @@ fn the_header_s_functions_are_the_crate_s() {
     let (header, crate_s) = (header(), read("src/c.rs"));
     let names = declared(&header);
     assert_eq!(names, declared(&crate_s));
-    assert_eq!(names.len(), 18);
+    assert_eq!(names.len(), 20);
 }
 
 /// The value of a name of the header, from its `#define` or its enum. An enum's case without a number follows the last.
@@ -149,6 +149,7 @@ fn the_header_s_numbers_are_the_crate_s() {
         ("BAD_BYTE", Refusal::BadByte(0)),
         ("NO_ROOM", Refusal::NoRoom),
         ("NOT_A_PLACE", Refusal::NotAPlace),
+        ("TOP_BITS", Refusal::TopBits),
     ];
     for (name, refusal) in refusals {
         let name = format!("REFUSAL_{name}");
@@ -160,6 +161,7 @@ fn the_header_s_numbers_are_the_crate_s() {
         ("MOST_ENDS", MOST_ENDS),
         ("MOST_RECORD_BYTES", MOST_RECORD_BYTES),
         ("REPORT_BYTES", REPORT_BYTES),
+        ("SHORT_REPORT_BYTES", SHORT_REPORT_BYTES),
     ];
     for (name, size) in sizes {
         assert_eq!(value(name), size as u64);

@@ -6,7 +6,8 @@ use std::fs;
 
 use misonkandi::{
     CoordPos, END_BYTES, EdgeEnd, IntersectionMatrix, LABEL_BYTES, Label, MOST_ENDS, Place,
-    Predicate, Refusal, Verdict, bundle, bundle_of_bytes, relate_coded, star, star_of_bytes,
+    Predicate, Refusal, Verdict, bundle, bundle_of_bytes, convert_report, relate_coded, star,
+    star_of_bytes,
 };
 
 const FOLDER: &str = concat!(env!("CARGO_MANIFEST_DIR"), "/../../crates/replay/");
@@ -62,6 +63,19 @@ impl Case {
 
     fn matrix(&self) -> IntersectionMatrix {
         IntersectionMatrix::from_cells(self.cells)
+    }
+
+    /// Where in a buffer to write.
+    fn offset(&self) -> usize {
+        let offset = u64::from(self.a) << 32 | u64::from(self.b);
+        offset.try_into().expect("a number of 64 bits")
+    }
+
+    /// A buffer afterwards is what is due.
+    fn holds(&self, buffer: &[u8]) {
+        let mut due = self.due.clone();
+        due.resize(buffer.len(), 0);
+        assert_eq!(buffer, due);
     }
 
     /// The answer's word is the one that is stored.
@@ -231,7 +245,7 @@ fn ends_case(kind: char, case: &Case) {
     }
 }
 
-/// N, D, E: a record poured, a report read, a report written.
+/// N, D, E, F, C: a record poured; a report read, written in its long and its short form, converted.
 fn record_case(kind: char, case: &Case) {
     let mut matrix = case.matrix();
     match kind {
@@ -245,15 +259,21 @@ fn record_case(kind: char, case: &Case) {
             case.says(answer.map(|(_, used)| used as u32));
             case.leaves(answer.map_or(matrix, |(read, _)| read));
         }
+        'C' => {
+            let mut given = case.given.clone();
+            let (report, buffer) = given.split_at_mut(case.dimension.into());
+            let answer = convert_report(report, buffer, case.offset());
+            case.says(answer.map(|used| used as u32));
+            case.holds(&given);
+        }
         _ => {
             let mut buffer = case.given.clone();
-            let offset = u64::from(case.a) << 32 | u64::from(case.b);
-            let offset = offset.try_into().expect("a number of 64 bits");
-            let answer = matrix.write_report(&mut buffer, offset);
+            let answer = match kind {
+                'E' => matrix.write_report(&mut buffer, case.offset()),
+                _ => matrix.write_short_report(&mut buffer, case.offset()),
+            };
             case.says(answer.map(|used| used as u32));
-            let mut due = case.due.clone();
-            due.resize(buffer.len(), 0);
-            assert_eq!(buffer, due);
+            case.holds(&buffer);
         }
     }
 }
@@ -308,7 +328,7 @@ fn every_stored_answer() {
             'M' | 'W' | 'T' | 'R' => text_case(kind, &case),
             'O' | 'X' | 'S' | 'L' => cell_case(kind, &case),
             'B' | 'K' => ends_case(kind, &case),
-            'N' | 'D' | 'E' => record_case(kind, &case),
+            'N' | 'D' | 'E' | 'F' | 'C' => record_case(kind, &case),
             'G' => place_case(&case),
             _ => panic!("no such kind of line: {line}"),
         }
@@ -319,7 +339,7 @@ fn every_stored_answer() {
     }
     assert_eq!(
         seen.len(),
-        18,
+        20,
         "a kind of line for each call of the library"
     );
     // No line was passed over: the replay of the C interface has the same number.

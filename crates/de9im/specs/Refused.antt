@@ -1,4 +1,4 @@
--- Document 01, "Numbers the caller sees", and "If an answer is an enum, a definition sets out this paper's number and
+-- Document 01, "Numbers the caller sees", request R-3's 14, and "If an answer is an enum, a definition sets out this paper's number and
 -- values for each of the enum's cases."
 use Prim.Native.Nat.{ℕ}
 use Rattle.de9im.specs.declared.refusal.Refusal.{Refusal}
@@ -20,6 +20,7 @@ numberOf R.NotNineBytes = 10
 numberOf (R.BadByte k) = 11
 numberOf R.NoRoom = 12
 numberOf R.NotAPlace = 13
+numberOf R.TopBits = 14
 
 -- only 11 has a place
 abbrev pub placeOf : Refusal → Spot
@@ -36,6 +37,7 @@ placeOf R.NotNineBytes = Nowhere
 placeOf (R.BadByte k) = At k
 placeOf R.NoRoom = Nowhere
 placeOf R.NotAPlace = Nowhere
+placeOf R.TopBits = Nowhere
 
 -- a place as a number, 0 where there is none
 abbrev pub spotNo : Spot → ℕ

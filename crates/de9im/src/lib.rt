@@ -5,6 +5,7 @@ pub mod cells;
 pub mod coordinate_position;
 pub mod dimension_matcher;
 pub mod dimensions;
+pub mod eighteen_bits;
 pub mod intersection_matrix;
 pub(crate) mod nine;
 pub mod patterns;

@@ -5,11 +5,11 @@ ghost use Rattle.de9im.specs.Refused.{numberOf, placeOf};
 pub enum Refusal {
     // Fewer bytes than the length field needs or promises.
     Short,
-    // Version not 1.
+    // Version not 1, or for a report neither 1 nor 2.
     Version,
     // Kind not 1 or 2.
     Kind,
-    // Length wrong for its kind, or for a report.
+    // Length wrong for its kind, or for a report or its version.
     Length,
     // More than 32 ends.
     Ends,
@@ -25,10 +25,12 @@ pub enum Refusal {
     NotNineBytes,
     // A bad byte in a text, pattern or report, with the first one's place, 0 to 8.
     BadByte(usize),
-    // Offset beyond the buffer, or fewer than 12 bytes from it.
+    // Offset beyond the buffer, or fewer bytes from it than are written.
     NoRoom,
     // A coordinate not finite, or a box without min < max on both axes.
     NotAPlace,
+    // One of the six bits above the cells of a short report is set.
+    TopBits,
 }
 
 // A place where there is one.
@@ -54,6 +56,7 @@ pub fn number(r: Refusal) -> u32
         Refusal::BadByte(_) => 11,
         Refusal::NoRoom => 12,
         Refusal::NotAPlace => 13,
+        Refusal::TopBits => 14,
     }
 }
 
@@ -74,5 +77,6 @@ pub fn place(r: Refusal) -> Spot
         Refusal::NotNineBytes => Spot::Nowhere,
         Refusal::NoRoom => Spot::Nowhere,
         Refusal::NotAPlace => Spot::Nowhere,
+        Refusal::TopBits => Spot::Nowhere,
     }
 }

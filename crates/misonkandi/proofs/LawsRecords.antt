@@ -11,7 +11,7 @@ use Rattle.de9im.specs.Answers.{answerPlace, usedOf}
 use Rattle.de9im.specs.Refused.{spotNo}
 use Rattle.plan.specs.Record.{recordOf}
 use Rattle.misonkandi.specs.Records.{usedOr, cellsUsed}
-use Rattle.plan.proofs.LawsReportNumbers.{Twelve}
+use Rattle.report.proofs.LawsReportNumbers.{Twelve}
 use Rattle.plan.proofs.LawsSmall.{Small, record-small}
 use Rattle.misonkandi.proofs.LawsFit.{none-below}
 

@@ -28,7 +28,7 @@ use Rattle.star.specs.Star.{joinedOf}
 use Rattle.star.proofs.LawsFew.{joined-few, completed-length}
 use Rattle.star.proofs.LawsLists.{padTo, pad-step, take-more}
 use Rattle.plan.specs.EndBytes.{endsCall}
-use Rattle.plan.specs.Read.{readAs}
+use Rattle.frame.specs.Read.{readAs}
 use Rattle.plan.proofs.LawsSmall.{readPlace, call-nowhere}
 use Rattle.de9im.proofs.LawsApart.{impossible}
 use Rattle.misonkandi.specs.Stars.{labelBytes, labelsBytes, filledBytes, countOf}

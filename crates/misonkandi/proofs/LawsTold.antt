@@ -24,13 +24,13 @@ use Rattle.misonkandi.specs.Records.{answerWord}
 use Rattle.verdict.specs.Answers.{judgedPlace}
 use Rattle.misonkandi.specs.Verdicts.{verdictNo, judgedWord}
 use Rattle.misonkandi.specs.Words.{refusalWord, noSuchRow, matchedWord, wordOr, checkedWord}
-use Rattle.misonkandi.proofs.LawsWords.{number-small}
+use Rattle.de9im.proofs.LawsRefused.{numbered}
 
 -- the refusal with a number and a place: row n has number n
 abbrev refusals : ℕ → List Refusal
 refusals k =
     R.Short ∷ R.Short ∷ R.Version ∷ R.Kind ∷ R.Length ∷ R.Ends ∷ R.PositionCode ∷ R.LabelKind ∷ R.Direction ∷ R.MissingLeft ∷
-    R.NotNineBytes ∷ R.BadByte k ∷ R.NoRoom ∷ R.NotAPlace ∷ []
+    R.NotNineBytes ∷ R.BadByte k ∷ R.NoRoom ∷ R.NotAPlace ∷ R.TopBits ∷ []
 
 abbrev refusalAt : ℕ → ℕ → Refusal
 refusalAt n k = getD (refusals k) n R.Short
@@ -50,6 +50,7 @@ known R.NotNineBytes = refl
 known (R.BadByte k) = refl
 known R.NoRoom = refl
 known R.NotAPlace = refl
+known R.TopBits = refl
 
 -- a byte beside a multiple of 256
 digits : (n k m j : ℕ) → k < 256 → j < 256 → 2147483648 + (256 * n + k) ≡ 2147483648 + (256 * m + j) → (n ≡ m) × (k ≡ j)
@@ -65,7 +66,7 @@ pub refusal-high : (r : Refusal) → 2147483648 ≤ refusalWord r
 refusal-high r = omega arith
 
 pub refusal-low : (r : Refusal) → spotNo (placeOf r) < 256 → refusalWord r < noSuchRow
-refusal-low r h = omega (arith, number-small r)
+refusal-low r h = omega (arith, numbered r .1)
 
 -- so neither an answer's
 pub no-answer : {A : Type 0} (n : ℕ) (r : Refusal) → n < 2147483648 → n ≡ refusalWord r → A

@@ -13,22 +13,6 @@ use Rattle.de9im.specs.Text.{raisedFrom}
 use Rattle.de9im.proofs.LawsText.{raised-kept}
 use Rattle.misonkandi.specs.Words.{keptOr, cellsAfter}
 
--- every refusal's number is one byte
-pub number-small : (r : Refusal) → numberOf r < 256
-number-small R.Short = omega arith
-number-small R.Version = omega arith
-number-small R.Kind = omega arith
-number-small R.Length = omega arith
-number-small R.Ends = omega arith
-number-small R.PositionCode = omega arith
-number-small R.LabelKind = omega arith
-number-small R.Direction = omega arith
-number-small R.MissingLeft = omega arith
-number-small R.NotNineBytes = omega arith
-number-small (R.BadByte k) = omega arith
-number-small R.NoRoom = omega arith
-number-small R.NotAPlace = omega arith
-
 -- where a refusal has the cells given, lent cells hold the answer's
 kept-by : (a : CellsAnswer) (held : List ℕ) (c : Checked) → a .answer ≡ c → ((r : Refusal) → a .answer ≡ C.Refused r → a .cells ≡ held)
     → a .cells ≡ keptOr c (a .cells) held

@@ -3,6 +3,7 @@
 pub mod changes;
 pub mod places;
 pub mod records;
+pub mod reports;
 pub mod rows;
 pub mod stars;
 pub mod verdicts;

@@ -1,19 +1,16 @@
-// Plan records and stored reports over the C interface.
+// Plan records over the C interface, and how an answer about bytes crosses to C.
 use crate::words::refusal_word;
 use de9im::answer::Answer;
 use de9im::answer::BytesAnswer;
 use plan::record::record;
-use plan::report::read_report;
-use plan::report::write_report;
 ghost use mathlib.Core.Path.{_≡_};
 ghost use Prim.Native.Nat.{_<_};
 ghost use Rattle.de9im.specs.Answers.{answerPlace, usedOf};
 ghost use Rattle.de9im.specs.Refused.{spotNo};
 ghost use Rattle.plan.specs.Record.{recordOf};
-ghost use Rattle.plan.specs.Report.{readReport, wroteOf, writtenOf};
 ghost use Rattle.misonkandi.specs.Records.{answerWord, cellsUsed};
 
-fn answer_word(a: Answer) -> u32
+pub(crate) fn answer_word(a: Answer) -> u32
     requires { ⌜ (usedOf a < 2147483648) × (spotNo (answerPlace a) < 9) ⌝ }
     ensures { λ w. ⌜ w ≡ answerWord a ⌝ }
 {
@@ -24,7 +21,7 @@ fn answer_word(a: Answer) -> u32
 }
 
 // Nine numbers into lent cells; a refusal leaves them.
-fn put_used(done: BytesAnswer, cells: &mut [u8; 9]) -> u32
+pub(crate) fn put_used(done: BytesAnswer, cells: &mut [u8; 9]) -> u32
     requires { ⌜ (usedOf (done .answer) < 2147483648) × (spotNo (answerPlace (done .answer)) < 9) ⌝ }
     ensures { λ w. ⌜ (w ≡ answerWord (done .answer)) × (now (cells .exit) ≡ cellsUsed done (now (cells .entry))) ⌝ }
 {
@@ -43,20 +40,4 @@ pub extern "C" fn misonkandi_record(cells: &mut [u8; 9], bytes: &[u8]) -> u32
         × (now (cells .exit) ≡ recordOf (now (cells .entry)) (now (bytes .entry)) .cells) ⌝ }
 {
     put_used(record(*cells, bytes), cells)
-}
-
-#[no_mangle]
-pub extern "C" fn misonkandi_read_report(cells: &mut [u8; 9], bytes: &[u8]) -> u32
-    ensures { λ w. ⌜ (w ≡ answerWord (readReport (now (bytes .entry)) .answer))
-        × (now (cells .exit) ≡ cellsUsed (readReport (now (bytes .entry))) (now (cells .entry))) ⌝ }
-{
-    put_used(read_report(bytes), cells)
-}
-
-#[no_mangle]
-pub extern "C" fn misonkandi_write_report(cells: &[u8; 9], buffer: &mut [u8], offset: usize) -> u32
-    ensures { λ w. ⌜ (w ≡ answerWord (wroteOf (now (buffer .entry)) offset))
-        × (now (buffer .exit) ≡ writtenOf (now (buffer .entry)) offset (now (cells .entry))) ⌝ }
-{
-    answer_word(write_report(*cells, buffer, offset))
 }

@@ -14,9 +14,9 @@ use Rattle.plan.specs.EndBytes.{dirAt, endAt, readEnds}
 use Rattle.plan.specs.LabelBytes.{sidesAt, labelAt}
 use Rattle.plan.specs.Record.{recordOf}
 use Rattle.plan.specs.Said.{edgeOf, nodeAt, nodeBody, nodeOf, byKind, saidOf}
-use Rattle.plan.specs.Words.{byteAt, promised}
-use Rattle.plan.proofs.LawsFront.{Alike, front-alike, front-promised}
-use Rattle.plan.proofs.LawsRead.{same-check}
+use Rattle.frame.specs.Words.{byteAt, promised}
+use Rattle.frame.proofs.LawsFront.{Alike, front-alike, front-promised}
+use Rattle.frame.proofs.LawsRead.{same-check}
 use Rattle.plan.proofs.LawsSaid.{says, is-whole}
 
 module _ (n : ℕ) (s t : List ℕ) (same : Alike n s t) where

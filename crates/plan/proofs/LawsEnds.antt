@@ -16,8 +16,8 @@ use Rattle.star.specs.Ends.{noEnd}
 use Rattle.star.proofs.LawsLists.{pad-step}
 use Rattle.plan.specs.declared.«end_bytes».EndsRead.{EndsRead}
 use Rattle.plan.specs.EndBytes.{Ends, endAt, readEnds, endsCall, paddedEnds, endsRead, endsCallOf}
-use Rattle.plan.specs.Read.{Read, good, bad, readAs, _>>=_}
-use Rattle.plan.proofs.LawsRead.{bad-good, passed}
+use Rattle.frame.specs.Read.{Read, good, bad, readAs, _>>=_}
+use Rattle.frame.proofs.LawsRead.{bad-good, passed}
 
 -- ends read earlier, in front
 abbrev before : List EdgeEnd → Ends → Ends

@@ -42,13 +42,14 @@ use Rattle.plan.specs.Numbers.{
   edgeRules,
   recordNo,
 }
-use Rattle.plan.specs.Read.{Read, good, bad, _>>=_}
+use Rattle.frame.specs.Read.{Read, good, bad, _>>=_}
 use Rattle.plan.specs.Record.{pouredBy, recordOf}
-use Rattle.plan.specs.Rules.{Rule, _gives_, firstNo}
+use Rattle.frame.specs.Rules.{Rule, _gives_, firstNo}
 use Rattle.plan.specs.Said.{Said, edge, node, edgeOf, nodeAt, withEnds, nodeBody, nodeOf, saidOf}
-use Rattle.plan.specs.Words.{byteAt, promised}
+use Rattle.frame.specs.Words.{byteAt, promised}
 use Rattle.plan.proofs.LawsReading.{label-reading, node-reading}
-use Rattle.plan.proofs.LawsRules.{noOr, checkedOr, some-number, check-no, two-checks, checked-no}
+use Rattle.de9im.proofs.LawsRefused.{some-number}
+use Rattle.frame.proofs.LawsRules.{noOr, checkedOr, check-no, two-checks, checked-no}
 
 -- bytes: a code above 3 is none below 4, and so on
 above : (b : ℕ) → ltb 3 b ≡ not (ltb b 4)

@@ -33,9 +33,9 @@ use Rattle.plan.specs.Inner.Reading.{
   nodeRead,
 }
 use Rattle.plan.specs.LabelBytes.{codeRead, sidesAt, labelAt}
-use Rattle.plan.specs.Read.{Read, good, bad, readAs, _>>=_}
+use Rattle.frame.specs.Read.{Read, good, bad, readAs, _>>=_}
 use Rattle.plan.specs.Said.{nodeAt}
-use Rattle.plan.specs.Words.{byteAt}
+use Rattle.frame.specs.Words.{byteAt}
 
 -- a byte that is neither 0, 1 nor 2
 pub above-two : (b : ℕ) → 3 ≤ b → Outside ≡ knownOf b

@@ -23,13 +23,12 @@ use Rattle.star.specs.Ends.{badDir, lineWithSide, faultOf, firstFault, checkedO
 use Rattle.star.specs.Star.{joinedOf}
 use Rattle.star.proofs.LawsEnds.{checked-sound}
 use Rattle.plan.specs.EndBytes.{Ends, dirAt, endAt, readEnds}
-use Rattle.plan.specs.Inner.Reading.{noneUsed}
 use Rattle.plan.specs.LabelBytes.{labelOf, sidesAt, labelAt}
-use Rattle.plan.specs.Read.{Read, good, bad, _>>=_}
+use Rattle.frame.specs.Read.{Read, good, bad, _>>=_, noneUsed}
 use Rattle.plan.specs.Record.{pouredBy}
 use Rattle.plan.specs.Said.{withEnds}
-use Rattle.plan.specs.Words.{byteAt}
-use Rattle.plan.proofs.LawsRead.{bad-good}
+use Rattle.frame.specs.Words.{byteAt}
+use Rattle.frame.proofs.LawsRead.{bad-good}
 
 -- a line label that was read has no side
 label-by : (k : Bool) (kind : ℕ) (p q : Read Sides) (l : Label)

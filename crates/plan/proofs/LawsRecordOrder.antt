@@ -5,10 +5,10 @@ use mathlib.Core.List.{List}
 use borrow.Author.Tests.{lt-ltb, le-ltb, eq-eqb, ne-eqb}
 use lib.ListN.{length}
 use Rattle.de9im.specs.declared.refusal.Refusal.the-variants.{Short, Version, Kind, Length, Ends}
-use Rattle.plan.specs.Read.{bad}
+use Rattle.frame.specs.Read.{bad}
 use Rattle.plan.specs.Record.{refusedAs, pouredBy, recordOf}
 use Rattle.plan.specs.Said.{nodeBody, nodeOf, edgeOf, saidOf}
-use Rattle.plan.specs.Words.{byteAt, promised}
+use Rattle.frame.specs.Words.{byteAt, promised}
 
 -- kind 1
 module _ (s : List ℕ) where

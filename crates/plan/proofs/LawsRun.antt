@@ -17,7 +17,7 @@ use Rattle.star.specs.Completing.{completedOf}
 use Rattle.star.specs.Pouring.{pourNode, pourLabel, pourLabels}
 use Rattle.star.specs.Star.{joinedOf}
 use Rattle.star.proofs.LawsPouring.{raise-cell, raise-shape, label-cell, labels-raise}
-use Rattle.plan.specs.Read.{good}
+use Rattle.frame.specs.Read.{good}
 use Rattle.plan.specs.Record.{pourSaid, recordOf}
 use Rattle.plan.specs.Run.{Accepts, Run, none, then}
 use Rattle.plan.specs.Said.{Said, edge, node, saidOf}

@@ -23,11 +23,11 @@ use Rattle.star.specs.Star.{joinedOf}
 use Rattle.plan.specs.EndBytes.{readEnds}
 use Rattle.plan.specs.EndBytes.{Ends as ReadEnds}
 use Rattle.plan.specs.LabelBytes.{labelAt}
-use Rattle.plan.specs.Read.{Read, good, bad, _>>=_}
+use Rattle.frame.specs.Read.{Read, good, bad, _>>=_}
 use Rattle.plan.specs.Record.{pourSaid, pouredBy, recordOf}
 use Rattle.plan.specs.Said.{Said, edge, node, edgeOf, nodeAt, withEnds, nodeBody, nodeOf, byKind, saidOf}
-use Rattle.plan.specs.Words.{byteAt, promised}
-use Rattle.plan.proofs.LawsRead.{bad-good, passed}
+use Rattle.frame.specs.Words.{byteAt, promised}
+use Rattle.frame.proofs.LawsRead.{bad-good, passed}
 
 -- a record is what its bytes say, poured
 pub splits : (ns s : List ℕ) → recordOf ns s ≡ pouredBy ns (2 + promised s) (saidOf s)

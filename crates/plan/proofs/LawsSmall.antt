@@ -25,11 +25,11 @@ use Rattle.star.specs.Label.{isNone}
 use Rattle.star.specs.Star.{joinedOf}
 use Rattle.plan.specs.EndBytes.{dirAt, endAt, readEnds, endsCall}
 use Rattle.plan.specs.LabelBytes.{codeRead, labelOf, sidesAt, labelAt}
-use Rattle.plan.specs.Read.{Read, good, bad, _>>=_}
+use Rattle.frame.specs.Read.{Read, good, bad, _>>=_}
 use Rattle.plan.specs.Record.{pouredBy, recordOf}
 use Rattle.plan.specs.Said.{Said, edgeOf, nodeAt, nodeBody, nodeOf, saidOf}
-use Rattle.plan.specs.Words.{byteAt, promised}
-use Rattle.plan.proofs.LawsRead.{bad-good, passed}
+use Rattle.frame.specs.Words.{byteAt, promised}
+use Rattle.frame.proofs.LawsRead.{bad-good, passed}
 use Rattle.plan.proofs.LawsSaid.{hands-back, is-whole}
 
 -- the place of what was read, if it was refused

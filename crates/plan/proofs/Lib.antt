@@ -1,8 +1,5 @@
 -- Facts about the definitions of specs/, each stated once.
 pub mod LawsWords
-pub mod LawsRead
-pub mod LawsRules
-pub mod LawsFront
 pub mod LawsReading
 pub mod LawsEnds
 pub mod LawsRecord
@@ -12,7 +9,3 @@ pub mod LawsAfter
 pub mod LawsRun
 pub mod LawsNumbers
 pub mod LawsSmall
-pub mod LawsReport
-pub mod LawsReportTrip
-pub mod LawsReportAfter
-pub mod LawsReportNumbers

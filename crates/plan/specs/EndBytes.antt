@@ -13,9 +13,9 @@ use Rattle.star.specs.declared.«edge_end».EdgeEnd.{EdgeEnd}
 use Rattle.star.specs.Ends.{badDir, noEnd}
 use Rattle.plan.specs.declared.«end_bytes».EndsRead.{EndsRead}
 use Rattle.plan.specs.LabelBytes.{labelAt}
-use Rattle.plan.specs.Words.{fourBytesAt, signedOf}
-use Rattle.plan.specs.Read.{Read, _refuses_, _>>_, _>>=_}
-pub use Rattle.plan.specs.Read.{good, bad}
+use Rattle.frame.specs.Words.{fourBytesAt, signedOf}
+use Rattle.frame.specs.Read.{Read, _refuses_, _>>_, _>>=_}
+pub use Rattle.frame.specs.Read.{good, bad}
 
 unfoldable pub dirAt : List ℕ → ℕ → Dir
 dirAt s at = record { dx = signedOf (fourBytesAt s at); dy = signedOf (fourBytesAt s (at + 4)) }

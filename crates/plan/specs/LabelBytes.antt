@@ -11,8 +11,8 @@ use Rattle.de9im.specs.Position.{codedOf}
 use Rattle.star.specs.declared.label.Label.{Label}
 use Rattle.star.specs.declared.«topology_position».Sides.{Sides}
 use Rattle.star.specs.Ends.{lineWithSide}
-use Rattle.plan.specs.Read.{Read, good, bad, _refuses_, _>>_, _>>=_}
-use Rattle.plan.specs.Words.{byteAt}
+use Rattle.frame.specs.Read.{Read, good, bad, _refuses_, _>>_, _>>=_}
+use Rattle.frame.specs.Words.{byteAt}
 
 -- "position code above 3" is 6
 abbrev pub codeRead : Coded → Read Position

@@ -1,14 +1,9 @@
 -- What a reader of this crate must believe: each file opens with the sentence of document 01 that it writes down. Inner/ is how the
 -- code keeps things.
-pub mod Words
-pub mod Read
-pub mod Rules
 pub mod LabelBytes
 pub mod EndBytes
 pub mod Said
 pub mod Record
 pub mod Run
 pub mod Numbers
-pub mod Report
-pub mod ReportNumbers
 pub mod Inner

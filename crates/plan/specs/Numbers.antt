@@ -10,9 +10,9 @@ use Rattle.star.specs.Completing.{missingLeft}
 use Rattle.star.specs.Ends.{badDir}
 use Rattle.star.specs.Star.{joinedOf}
 use Rattle.plan.specs.EndBytes.{Ends, dirAt, readEnds}
-use Rattle.plan.specs.Read.{good, bad}
-use Rattle.plan.specs.Rules.{Rule, _gives_, firstNo, short}
-use Rattle.plan.specs.Words.{byteAt, promised}
+use Rattle.frame.specs.Read.{good, bad}
+use Rattle.frame.specs.Rules.{Rule, _gives_, firstNo, short}
+use Rattle.frame.specs.Words.{byteAt, promised}
 
 -- a label from a place on: "label kind above 1", "position code above 3", "a line label with a side"
 abbrev pub badCodes : List ℕ → ℕ → Bool

@@ -8,9 +8,9 @@ use Rattle.de9im.specs.declared.refusal.Refusal.{Refusal}
 use Rattle.de9im.specs.Cells.{cellsOf, matrixOf}
 use Rattle.star.specs.Calls.{pouredStar}
 use Rattle.star.specs.Pouring.{pourLabel}
-use Rattle.plan.specs.Read.{Read, good, bad}
+use Rattle.frame.specs.Read.{Read, good, bad}
 use Rattle.plan.specs.Said.{Said, edge, node, saidOf}
-use Rattle.plan.specs.Words.{promised}
+use Rattle.frame.specs.Words.{promised}
 
 -- a refusal hands the given numbers back as they came
 abbrev pub refusedAs : Refusal → List ℕ → BytesAnswer

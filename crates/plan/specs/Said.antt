@@ -16,8 +16,8 @@ use Rattle.star.specs.Label.{isNone}
 use Rattle.star.specs.Star.{joinedOf}
 use Rattle.plan.specs.EndBytes.{readEnds}
 use Rattle.plan.specs.LabelBytes.{codeAt, labelAt}
-use Rattle.plan.specs.Read.{Read, good, bad, _refuses_, _>>_, _>>=_}
-use Rattle.plan.specs.Words.{byteAt, promised}
+use Rattle.frame.specs.Read.{Read, good, bad, _refuses_, _>>_, _>>=_}
+use Rattle.frame.specs.Words.{byteAt, promised}
 
 -- an isolated edge's label, or a node with its ends
 pub data Said : Type 0 where

@@ -1,17 +1,17 @@
 // Plan records: kind 1, a node with its ends, and kind 2, an isolated edge, checked in document 01's order and poured.
 use crate::end_bytes::ends_at;
-use crate::handing_on::none_used;
 use crate::label_bytes::label_fault;
 use crate::label_bytes::label_read;
 use crate::node_bytes::node_fault;
 use crate::node_bytes::node_read;
-use crate::words::two_bytes;
-use crate::words::wide;
 use de9im::answer::Answer;
 use de9im::answer::BytesAnswer;
 use de9im::answer::Checked;
 use de9im::cells::Cells;
 use de9im::refusal::Refusal;
+use frame::handing_on::none_used;
+use frame::words::two_bytes;
+use frame::words::wide;
 use star::edge_end::EdgeEnd;
 use star::pouring::Node;
 use star::pouring::pour_edge;
@@ -20,7 +20,7 @@ ghost use mathlib.Core.Path.{_≡_};
 ghost use Prim.Native.Nat.{_+_, _*_, _≤_};
 ghost use lib.ListN.{length, take};
 ghost use Rattle.star.specs.Ends.{Sound};
-ghost use Rattle.plan.specs.Words.{byteAt, promised};
+ghost use Rattle.frame.specs.Words.{byteAt, promised};
 ghost use Rattle.plan.specs.Said.{edgeOf, withEnds, nodeBody, nodeOf};
 ghost use Rattle.plan.specs.Record.{refusedAs, pouredBy, recordOf};
 

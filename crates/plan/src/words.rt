@@ -1,20 +1,9 @@
-// Big-endian numbers in a record.
+// The four-byte numbers of a record.
+use frame::words::wide;
 ghost use mathlib.Core.Path.{_≡_};
 ghost use Prim.Native.Nat.{_+_, _≤_, _<_};
 ghost use lib.ListN.{length};
-ghost use Rattle.plan.specs.Words.{twoBytes, fourBytes, fourBytesAt, signedOf};
-
-pub(crate) fn wide(x: u8) -> u64
-    ensures { λ r. ⌜ (r ≡ x) × (r < 256) ⌝ }
-{
-    x as u64
-}
-
-pub fn two_bytes(a: u8, b: u8) -> usize
-    ensures { λ r. ⌜ (r ≡ twoBytes a b) × (r < 65536) ⌝ }
-{
-    (wide(a) * 256 + wide(b)) as usize
-}
+ghost use Rattle.frame.specs.Words.{fourBytes, fourBytesAt, signedOf};
 
 fn four_bytes(a: u8, b: u8, c: u8, d: u8) -> u64
     ensures { λ r. ⌜ (r ≡ fourBytes a b c d) × (r < 4294967296) ⌝ }

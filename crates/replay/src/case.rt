@@ -85,7 +85,7 @@ fn room(letter: u8, n: usize) -> usize
     match letter {
         b'B' => 7,
         b'K' => 224,
-        b'E' => least(n, 100),
+        b'E' | b'F' | b'C' => least(n, 100),
         _ => 9,
     }
 }
@@ -114,15 +114,35 @@ fn asked(letter: u8, h: Head, given: &[u8], due: &[u8]) -> bool {
     }
 }
 
-// Takes the bytes given and those due out of a case. A report is written into a copy of the case.
+fn is_writing(letter: u8) -> bool {
+    (letter == b'E') | (letter == b'F') | (letter == b'C')
+}
+
+// Reports are written into a copy of the case. Of the bytes given to C the first are the report, as many as the dimension says.
+fn written(letter: u8, h: Head, n: usize, c: &[u8], copy: &mut [u8], due: &[u8]) -> bool
+    requires { ⌜ (n ≤ 600) × (length (now c) ≡ 1024) × (length (now copy) ≡ 1024) ⌝ }
+{
+    let end = 24 + n;
+    if letter == b'E' {
+        return plan_calls::write_report(h, &mut copy[24..end], due);
+    }
+    if letter == b'F' {
+        return plan_calls::write_short_report(h, &mut copy[24..end], due);
+    }
+    let count = least(least(h.dimension as usize, n), due.len());
+    let from = 24 + count;
+    plan_calls::convert_report(h, &c[24..from], &mut copy[from..end], &due[count..])
+}
+
+// Takes the bytes given and those due out of a case.
 fn parted(letter: u8, h: Head, n: usize, c: &[u8], copy: &mut [u8]) -> bool
     requires { ⌜ (n ≤ 600) × (length (now c) ≡ 1024) × (length (now copy) ≡ 1024) ⌝ }
 {
     let from = 24 + n;
     let to = from + room(letter, n);
     let due = &c[from..to];
-    if letter == b'E' {
-        return plan_calls::write_report(h, &mut copy[24..from], due);
+    if is_writing(letter) {
+        return written(letter, h, n, c, copy, due);
     }
     asked(letter, h, &c[24..from], due)
 }

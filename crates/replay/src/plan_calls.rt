@@ -72,14 +72,28 @@ pub(crate) fn record(h: Head, bytes: &[u8], due: &[u8]) -> bool {
 
 pub(crate) fn read_report(h: Head, bytes: &[u8], due: &[u8]) -> bool {
     let mut cells = h.cells;
-    let word = misonkandi::records::misonkandi_read_report(&mut cells, bytes);
+    let word = misonkandi::reports::misonkandi_read_report(&mut cells, bytes);
     (word == h.word) & same_nine(cells, due)
 }
 
 // The offset is a times 2^32, plus b.
+fn offset_of(h: Head) -> usize {
+    4294967296 * (h.a as usize) + (h.b as usize)
+}
+
 pub(crate) fn write_report(h: Head, buffer: &mut [u8], due: &[u8]) -> bool {
     let cells = h.cells;
-    let offset = 4294967296 * (h.a as usize) + (h.b as usize);
-    let word = misonkandi::records::misonkandi_write_report(&cells, buffer, offset);
+    let word = misonkandi::reports::misonkandi_write_report(&cells, buffer, offset_of(h));
+    (word == h.word) & check::same(buffer, due)
+}
+
+pub(crate) fn write_short_report(h: Head, buffer: &mut [u8], due: &[u8]) -> bool {
+    let cells = h.cells;
+    let word = misonkandi::reports::misonkandi_write_short_report(&cells, buffer, offset_of(h));
+    (word == h.word) & check::same(buffer, due)
+}
+
+pub(crate) fn convert_report(h: Head, report: &[u8], buffer: &mut [u8], due: &[u8]) -> bool {
+    let word = misonkandi::reports::misonkandi_convert_report(report, buffer, offset_of(h));
     (word == h.word) & check::same(buffer, due)
 }

@@ -1,32 +1,20 @@
 -- The number of every answer of the star's calls is document 01's, and none of them has a place. Assumes nothing.
-use Prim.Native.Nat.{ℕ}
+use Prim.Native.Nat.{ℕ, zero, suc, _≤_}
 use mathlib.Core.Path.{_≡_, refl, sym, ap, _∙_}
 use mathlib.Core.Bool.{Bool, true, false, cond}
 use mathlib.Core.List.{List, [], _∷_}
+use native.Mathlib.Omega.{arith}
 use lib.Dec.{ltb}
 use lib.ListN.{length, take}
 use Rattle.de9im.specs.declared.answer.Checked.{Checked}
 use Rattle.de9im.specs.declared.answer.Checked.the-variants.{Fine, Refused}
 use Rattle.de9im.specs.declared.«coordinate_position».Position.{Position}
 use Rattle.de9im.specs.declared.refusal.Refusal.{Refusal}
-use Rattle.de9im.specs.declared.refusal.Refusal.the-variants.{
-  Short,
-  Version,
-  Kind,
-  Length,
-  Ends,
-  PositionCode,
-  LabelKind,
-  Direction,
-  MissingLeft,
-  NotNineBytes,
-  BadByte,
-  NoRoom,
-  NotAPlace,
-}
+use Rattle.de9im.specs.declared.refusal.Refusal.the-variants.{Ends, LabelKind, Direction, MissingLeft}
 use Rattle.de9im.specs.declared.refusal.Spot.the-variants.{Nowhere}
 use Rattle.de9im.specs.Answers.{checkedNo, checkedPlace}
 use Rattle.de9im.specs.Refused.{numberOf}
+use Rattle.de9im.proofs.LawsRefused.{numbered}
 use Rattle.star.specs.declared.label.Label.{Label}
 use Rattle.star.specs.declared.«edge_end».EdgeEnd.{EdgeEnd}
 use Rattle.star.specs.declared.«edge_end_bundle_star».Labeled.{Labeled}
@@ -42,20 +30,12 @@ use Rattle.star.specs.Star.{joinedOf}
 -- ---- the numbers
 
 -- a refusal has a number, so it comes first
+first : (m n : ℕ) → 1 ≤ m → orNo m n ≡ m
+first zero n h = absurd (omega arith)
+first (suc m) n h = refl
+
 number-first : (r : Refusal) (n : ℕ) → orNo (numberOf r) n ≡ numberOf r
-number-first Short n = refl
-number-first Version n = refl
-number-first Kind n = refl
-number-first Length n = refl
-number-first Ends n = refl
-number-first PositionCode n = refl
-number-first LabelKind n = refl
-number-first Direction n = refl
-number-first MissingLeft n = refl
-number-first NotNineBytes n = refl
-number-first (BadByte k) n = refl
-number-first NoRoom n = refl
-number-first NotAPlace n = refl
+number-first r n = first (numberOf r) n (numbered r .0)
 
 -- checking: of one end, of each in turn, and of the count before them
 end-number : (d s : Bool) → checkedNo (cond d (Refused Direction) (cond s (Refused LabelKind) Fine)) ≡ cond d 8 (cond s 7 0)

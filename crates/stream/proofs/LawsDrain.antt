@@ -15,7 +15,7 @@ use Rattle.de9im.specs.declared.answer.Answer.{Answer}
 use Rattle.de9im.specs.declared.answer.Answer.the-variants.{Used, Refused}
 use Rattle.de9im.specs.declared.answer.BytesAnswer.{BytesAnswer}
 use Rattle.plan.specs.Record.{refusedAs, recordOf}
-use Rattle.plan.specs.Words.{promised}
+use Rattle.frame.specs.Words.{promised}
 use Rattle.plan.proofs.LawsAfter.{Spent, spent, later-bytes}
 use Rattle.plan.proofs.LawsRecordOrder.{no-field, no-body}
 use Rattle.stream.specs.declared.drain.Drained.{Drained}

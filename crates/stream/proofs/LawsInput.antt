@@ -12,7 +12,7 @@ use Rattle.de9im.specs.declared.refusal.Refusal.the-variants.{Short}
 use Rattle.de9im.specs.declared.answer.Answer.the-variants.{Used, Refused}
 use Rattle.de9im.specs.declared.answer.BytesAnswer.{BytesAnswer}
 use Rattle.plan.specs.Record.{refusedAs, recordOf}
-use Rattle.plan.specs.Words.{promised}
+use Rattle.frame.specs.Words.{promised}
 use Rattle.plan.proofs.LawsAfter.{Spent, spent, later-bytes}
 use Rattle.stream.specs.declared.Told.{Told}
 use Rattle.stream.specs.declared.Told.the-variants as T

@@ -13,7 +13,7 @@ use Rattle.de9im.specs.declared.answer.Answer.the-variants.{Used, Refused}
 use Rattle.de9im.specs.declared.answer.BytesAnswer.{BytesAnswer}
 use Rattle.plan.specs.Record.{recordOf}
 use Rattle.plan.specs.Run.{Accepts, Run, none, then}
-use Rattle.plan.specs.Words.{promised}
+use Rattle.frame.specs.Words.{promised}
 use Rattle.plan.proofs.LawsAfter.{Spent, spent, later-bytes}
 use Rattle.stream.specs.declared.Told.the-variants as T
 use Rattle.stream.specs.declared.Outcome.{Outcome}

@@ -10,7 +10,7 @@ use Rattle.de9im.specs.declared.refusal.Refusal.{Refusal}
 use Rattle.de9im.specs.declared.answer.Answer.{Answer}
 use Rattle.de9im.specs.declared.answer.Answer.the-variants.{Used, Refused}
 use Rattle.plan.specs.Record.{recordOf}
-use Rattle.plan.specs.Words.{promised}
+use Rattle.frame.specs.Words.{promised}
 use Rattle.stream.specs.declared.drain.Stop.{Stop}
 use Rattle.stream.specs.declared.drain.Stop.the-variants as S
 use Rattle.stream.specs.declared.drain.Drained.{Drained}

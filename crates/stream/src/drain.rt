@@ -2,8 +2,8 @@
 use de9im::answer::Answer;
 use de9im::cells::Cells;
 use de9im::refusal::Refusal;
+use frame::words::two_bytes;
 use plan::record::record;
-use plan::words::two_bytes;
 ghost use mathlib.Core.Path.{_≡_};
 ghost use mathlib.Core.Bool.{true};
 ghost use Prim.Native.Nat.{_+_, _≤_, _<_};

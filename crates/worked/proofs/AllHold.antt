@@ -19,7 +19,8 @@ use Rattle.star.specs.Star.{insertDir, dirsFrom, keep}
 use Rattle.plan.specs.EndBytes.{dirAt, endAt, readEnds}
 use Rattle.plan.specs.LabelBytes.{sidesAt, labelAt}
 use Rattle.plan.specs.Record.{recordOf}
-use Rattle.plan.specs.Report.{reportBytes, wroteOf, writtenOf}
+use Rattle.frame.specs.Lent.{wroteOf, writtenOf}
+use Rattle.report.specs.Report.{longBytes}
 use Rattle.plan.specs.Said.{nodeAt, nodeBody, nodeOf, saidOf}
 use Rattle.place.specs.Places.{finite, isPlace}
 use Rattle.place.specs.Relate.{relateOf}
@@ -62,5 +63,5 @@ printed-holds = refl and none
 pub edges-hold : Every edges
 unfolding recordOf saidOf nodeOf nodeBody nodeAt pouredStar completedStar readEnds endAt dirAt labelAt sidesAt cellLetterOf
     orderOf count onJoined sideJoined halfJoined joinOf insertDir dirsFrom keep startOf walkFrom walkOf any missingLeft filledOf
-    pourNode pourLabel pourLabels wroteOf writtenOf reportBytes
+    pourNode pourLabel pourLabels wroteOf writtenOf longBytes
 edges-hold = refl and refl and refl and refl and refl and none

@@ -22,7 +22,8 @@ use Rattle.star.specs.Ends.{noEnd}
 use Rattle.de9im.specs.declared.answer.Answer.{Answer}
 use Rattle.de9im.specs.declared.answer.Answer.the-variants.{Used, Refused}
 use Rattle.plan.specs.Record.{recordOf}
-use Rattle.plan.specs.Report.{wroteOf, writtenOf}
+use Rattle.frame.specs.Lent.{wroteOf, writtenOf}
+use Rattle.report.specs.Report.{longBytes}
 use Rattle.place.specs.declared.places.Place.{Place}
 use Rattle.de9im.specs.declared.answer.Checked.the-variants.{Fine}
 use Rattle.place.specs.Relate.{relateOf}
@@ -69,7 +70,7 @@ pub data Example : Type 0 where
 
 -- the answer to a report written, and what the buffer then holds
 abbrev pub written : String → List ℕ → ℕ → Answer × List ℕ
-written m buf offset = (wroteOf buf offset, writtenOf buf offset (cells m))
+written m buf offset = (wroteOf 12 buf offset, writtenOf (longBytes (cells m)) buf offset)
 
 abbrev pub says : Example → Type 0
 says (record-gives before s used after) = recordOf (cells before) s ≡ record { answer = Used used; cells = cells after }

@@ -108,6 +108,7 @@ pub fn main() -> i32 {
     verdicts::compare(&mut run);
     // Last, so that every run above draws what it drew without it.
     matches::compare_bad_letters(&mut run);
+    reports::compare_both_forms(&mut run);
     run.answer_waiting();
     run.tally.report()
 }

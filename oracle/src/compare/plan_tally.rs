@@ -102,7 +102,10 @@ fn describe(call: &PlanCall) -> String {
         PlanOp::Bundle => String::new(),
         PlanOp::Star => format!(" areas {}, {}", call.a, call.b),
         PlanOp::Record | PlanOp::ReadReport => format!(" on cells {}", hex(&call.out)),
-        PlanOp::WriteReport => format!(" of cells {} at {}", hex(&call.out), call.offset),
+        PlanOp::WriteReport | PlanOp::WriteShortReport => {
+            format!(" of cells {} at {}", hex(&call.out), call.offset)
+        }
+        PlanOp::ConvertReport => format!(" into {} at {}", hex(&call.out), call.offset),
     };
     format!("{}{given}, bytes {}", call.op.name(), hex(&call.bytes))
 }

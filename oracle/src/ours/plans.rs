@@ -1,8 +1,8 @@
 //! Calls on ends, plan records and stored reports: their bytes are of any count, so they are written down apart.
 //!
 //! What a call is lent stands in one stretch, with guards before, between and after: the bytes that it may write an
-//! answer into (`out`), then the ends, the record, the report or the buffer (`bytes`). The stretch is the same whether
-//! the library is linked or in a program of its own.
+//! answer into (`out`), then the ends, the record, the report or the buffer (`bytes`). Converting has the buffer in `out`,
+//! since it reads a report too. The stretch is the same whether the library is linked or in a program of its own.
 
 #[cfg(all(linked, not(far)))]
 use super::linked;
@@ -23,6 +23,8 @@ pub enum PlanOp {
     Record = 2,
     ReadReport = 3,
     WriteReport = 4,
+    WriteShortReport = 5,
+    ConvertReport = 6,
 }
 
 impl PlanOp {
@@ -34,6 +36,8 @@ impl PlanOp {
             PlanOp::Record => "misonkandi_record",
             PlanOp::ReadReport => "misonkandi_read_report",
             PlanOp::WriteReport => "misonkandi_write_report",
+            PlanOp::WriteShortReport => "misonkandi_write_short_report",
+            PlanOp::ConvertReport => "misonkandi_convert_report",
         }
     }
 }
@@ -42,7 +46,8 @@ impl PlanOp {
 #[derive(Clone, Debug)]
 pub struct PlanCall {
     pub op: PlanOp,
-    /// A label's seven bytes, the 224 of a star's labels, or nine cells; as they are before the call.
+    /// A label's seven bytes, the 224 of a star's labels, nine cells, or the buffer of converting; as they are before the
+    /// call.
     pub out: Vec<u8>,
     pub bytes: Vec<u8>,
     /// The area codes.
@@ -85,6 +90,22 @@ impl PlanCall {
         PlanCall {
             offset,
             ..PlanCall::on_cells(PlanOp::WriteReport, cells, buffer)
+        }
+    }
+
+    pub fn write_short_report(cells: [u8; 9], buffer: Vec<u8>, offset: u64) -> Self {
+        PlanCall {
+            op: PlanOp::WriteShortReport,
+            ..PlanCall::write_report(cells, buffer, offset)
+        }
+    }
+
+    pub fn convert_report(report: Vec<u8>, buffer: Vec<u8>, offset: u64) -> Self {
+        PlanCall {
+            op: PlanOp::ConvertReport,
+            out: buffer,
+            offset,
+            ..PlanCall::bundle(report)
         }
     }
 
@@ -141,15 +162,19 @@ pub(super) fn answer(call: &PlanCall) -> PlanReply {
     let (front, back) = lent.split_at_mut(call.bytes_at().start);
     let out = &mut front[call.out_at()];
     let bytes = &mut back[..call.bytes.len()];
+    let offset = usize::try_from(call.offset).expect("as wide as an offset there");
     let word = match call.op {
         PlanOp::Bundle => linked::bundle(bytes, out.try_into().expect("seven")),
         PlanOp::Star => linked::star(bytes, call.a, call.b, out.try_into().expect("224")),
         PlanOp::Record => linked::record(out.try_into().expect("nine"), bytes),
         PlanOp::ReadReport => linked::read_report(out.try_into().expect("nine"), bytes),
         PlanOp::WriteReport => {
-            let offset = usize::try_from(call.offset).expect("as wide as an offset there");
             linked::write_report((&*out).try_into().expect("nine"), bytes, offset)
         }
+        PlanOp::WriteShortReport => {
+            linked::write_short_report((&*out).try_into().expect("nine"), bytes, offset)
+        }
+        PlanOp::ConvertReport => linked::convert_report(bytes, out, offset),
     };
     reply(call, word, &lent)
 }

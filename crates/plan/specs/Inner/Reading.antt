@@ -4,8 +4,6 @@ use Prim.Native.Nat.{ℕ, zero, suc, _+_}
 use mathlib.Core.Bool.{Bool, cond, not, _&&_, _||_}
 use mathlib.Core.List.{List}
 use lib.Dec.{eqb, ltb}
-use Rattle.de9im.specs.declared.answer.Answer.{Answer}
-use Rattle.de9im.specs.declared.answer.Answer.the-variants as A
 use Rattle.de9im.specs.declared.answer.Checked.{Checked}
 use Rattle.de9im.specs.declared.answer.Checked.the-variants.{Fine, Refused}
 use Rattle.de9im.specs.declared.«coordinate_position».Position.{Position}
@@ -17,12 +15,7 @@ use Rattle.star.specs.declared.pouring.Node.{Node}
 use Rattle.star.specs.declared.«topology_position».Sides.{Sides}
 use Rattle.star.specs.Ends.{badDir}
 use Rattle.plan.specs.EndBytes.{dirAt}
-use Rattle.plan.specs.Words.{byteAt}
-
--- a check as the answer of a call on bytes, of which it used none
-abbrev pub noneUsed : Checked → Answer
-noneUsed Fine = A.Used 0
-noneUsed (Refused r) = A.Refused r
+use Rattle.frame.specs.Words.{byteAt}
 
 -- a code's position; one above 3 is read as Outside, and what is read of it is never taken
 abbrev pub knownOf : ℕ → Position
