@@ -31,6 +31,12 @@ pub enum Refusal {
     NotAPlace,
     // One of the six bits above the cells of a short report is set.
     TopBits,
+    // An outline without 3 to 64 corners, or half a corner at the end of its numbers.
+    CornerCount,
+    // A coordinate beyond ±1,000,000,000, a corner's or the point's.
+    OutOfRange,
+    // Two equal neighbouring corners, last and first included.
+    EqualCorners,
 }
 
 // A place where there is one.
@@ -57,6 +63,9 @@ pub fn number(r: Refusal) -> u32
         Refusal::NoRoom => 12,
         Refusal::NotAPlace => 13,
         Refusal::TopBits => 14,
+        Refusal::CornerCount => 16,
+        Refusal::OutOfRange => 17,
+        Refusal::EqualCorners => 18,
     }
 }
 
@@ -78,5 +87,8 @@ pub fn place(r: Refusal) -> Spot
         Refusal::NoRoom => Spot::Nowhere,
         Refusal::NotAPlace => Spot::Nowhere,
         Refusal::TopBits => Spot::Nowhere,
+        Refusal::CornerCount => Spot::Nowhere,
+        Refusal::OutOfRange => Spot::Nowhere,
+        Refusal::EqualCorners => Spot::Nowhere,
     }
 }
