@@ -1,0 +1,12 @@
+-- Facts about the definitions of specs/, each stated once.
+pub mod LawsBool
+pub mod LawsSigned
+pub mod LawsLists
+pub mod LawsWalk
+pub mod LawsAnswer
+pub mod LawsTurn
+pub mod LawsLent
+pub mod LawsParts
+pub mod LawsMeaning
+pub mod LawsWhole
+pub mod Examples
