@@ -9,4 +9,5 @@ pub mod LawsLent
 pub mod LawsParts
 pub mod LawsMeaning
 pub mod LawsWhole
+pub mod LawsMoved
 pub mod Examples

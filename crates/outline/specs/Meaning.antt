@@ -56,11 +56,9 @@ abbrev pub Halved : Bool → ℕ → Type 0
 Halved true n = (k : ℕ) × (n ≡ suc (k + k))
 Halved false n = (k : ℕ) × (n ≡ k + k)
 
-abbrev pub Odd : ℕ → Type 0
-Odd n = Halved true n
-
-abbrev pub Even : ℕ → Type 0
-Even n = Halved false n
+-- no side has the point, and the number of sides that are crossed is odd, or even
+abbrev pub Parity : Bool → Corner → List Corner → Type 0
+Parity odd p cs = (Some (OnSide p) (sides cs) → ⊥) × (n : ℕ) × Exactly (Crosses p) n (sides cs) × Halved odd n
 
 -- an outline that isn't refused
 abbrev pub Accepted : List Corner → Type 0
