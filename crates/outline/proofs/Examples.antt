@@ -38,7 +38,9 @@ between-tips = refl
 
 -- the largest square
 abbrev square : List Corner
-square = corner (negsuc 999999999) (negsuc 999999999) ∷ corner (pos 1000000000) (negsuc 999999999) ∷ corner (pos 1000000000) (pos 1000000000) ∷ corner (negsuc 999999999) (pos 1000000000) ∷ []
+square =
+    corner (negsuc 999999999) (negsuc 999999999) ∷ corner (pos 1000000000) (negsuc 999999999) ∷ corner (pos 1000000000) (pos 1000000000) ∷
+    corner (negsuc 999999999) (pos 1000000000) ∷ []
 
 -- its middle
 largest : answerOf square (corner (pos 0) (pos 0)) ≡ Is Inside

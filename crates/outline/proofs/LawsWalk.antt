@@ -27,9 +27,11 @@ abbrev pub farFrom : List Corner → ℕ → ℕ → Bool
 farFrom cs n i = someFar (drop i (take n cs))
 
 module _ (cs : List Corner) (n i : ℕ) where
-  pub far-next : (b : Bool) → i < n → n ≤ length cs → ((b || farCorner (getD cs i noCorner)) || farFrom cs n (i + 1)) ≡ (b || farFrom cs n i)
+  pub far-next : (b : Bool) → i < n → n ≤ length cs
+      → ((b || farCorner (getD cs i noCorner)) || farFrom cs n (i + 1)) ≡ (b || farFrom cs n i)
   unfolding someFar
-  far-next b h k = or-assoc b (farCorner (getD cs i noCorner)) (farFrom cs n (i + 1)) ∙ sym (ap (λ l. b || someFar l) (rest noCorner cs i n h k))
+  far-next b h k =
+      or-assoc b (farCorner (getD cs i noCorner)) (farFrom cs n (i + 1)) ∙ sym (ap (λ l. b || someFar l) (rest noCorner cs i n h k))
 
   pub far-end : (b : Bool) → n ≤ i → n ≤ length cs → (b || farFrom cs n i) ≡ b
   unfolding someFar
@@ -41,7 +43,8 @@ near-at [] e k h = absurd (omega arith)
 near-at (c ∷ cs) e zero h = neither (farCorner c) (someFar cs) e .0
 near-at (c ∷ cs) e (suc k) h = near-at cs (neither (farCorner c) (someFar cs) e .1) k (omega arith)
 
-pub near-first : (cs : List Corner) (n k : ℕ) → k < n → n ≤ length cs → someFar (take n cs) ≡ false → farCorner (getD cs k noCorner) ≡ false
+pub near-first : (cs : List Corner) (n k : ℕ) → k < n → n ≤ length cs → someFar (take n cs) ≡ false
+    → farCorner (getD cs k noCorner) ≡ false
 near-first cs n k h l e =
     rw (getD-take n cs k noCorner h) at (near-at (take n cs) e k (omega (arith, length-take-le n cs l)))
 

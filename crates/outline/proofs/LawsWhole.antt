@@ -95,7 +95,8 @@ module _ (a p b : ℤ) (h : betweenZ a p b ≡ true) where
 near-side : (p a b : Corner) → onSide p (joined a b) ≡ true → farCorner a ≡ false → farCorner b ≡ false → farCorner p ≡ false
 unfolding onSide
 near-side p a b h e f =
-    let k = both (betweenZ (a .x) (p .x) (b .x)) (betweenZ (a .y) (p .y) (b .y)) (and-right (eqZ (across p a b) (across p b a)) (inBox p a b) h) in
+    let g = and-right (eqZ (across p a b) (across p b a)) (inBox p a b) h in
+    let k = both (betweenZ (a .x) (p .x) (b .x)) (betweenZ (a .y) (p .y) (b .y)) g in
     let s = neither (farZ (a .x)) (farZ (a .y)) e in
     let t = neither (farZ (b .x)) (farZ (b .y)) f in
     rw (near-by (a .x) (p .x) (b .x) (k .0) (s .0) (t .0), near-by (a .y) (p .y) (b .y) (k .1) (s .1) (t .1)) refl
@@ -162,7 +163,8 @@ off cs p a e away =
     told (someOf (onSide p) (sides cs)) (λ h. absurd (away (some-in (onSide p) (OnSide p) (on-side-means p) (sides cs) h))) (λ h. h) in
     accepted cs p a e ∙ rw f refl
 
-odd-is : (cs : List Corner) (p : Corner) (t : Bool) (n : ℕ) → Exactly (Crosses p) n (sides cs) → Halved t n → oddOf (crossed p) (sides cs) ≡ t
+odd-is : (cs : List Corner) (p : Corner) (t : Bool) (n : ℕ) → Exactly (Crosses p) n (sides cs) → Halved t n
+    → oddOf (crossed p) (sides cs) ≡ t
 odd-is cs p t n x h =
     let m = how-many (crossed p) (Crosses p) (crosses-means p) (sides cs) in
     same t (oddOf (crossed p) (sides cs)) h (m .2) (exactly-once x (m .1))

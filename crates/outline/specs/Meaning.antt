@@ -1,6 +1,6 @@
--- Request R-8: "On a side or a corner is OnBoundary; else Inside if the half line towards positive x crosses an odd number of sides, a side
--- counting when exactly one of its ends lies strictly above the point's y", said of the plane itself: the points of the side from a to b
--- are the means of a and b with weights m and n, not both 0. What the tests of Position.antt are proved to say.
+-- Request R-8: "On a side or a corner is OnBoundary; else Inside if the half line towards positive x crosses an odd number of sides, a
+-- side counting when exactly one of its ends lies strictly above the point's y", said of the plane itself: the points of the side from a
+-- to b are the means of a and b with weights m and n, not both 0. What the tests of Position.antt are proved to say.
 use Prim.Native.Nat.{ℕ, suc, _+_, _<_}
 use mathlib.Core.Path.{_≡_}
 use mathlib.Core.Bool.{Bool, true, false}

@@ -27,7 +27,8 @@ loop-holds c =
       omega arith,
       omega arith,
       near-first (b .t1) (b .count) 0 (omega arith) (omega arith) (q .2),
-      ap (walk (b .p) start) (sym (walk-start (b .t1) (b .count) (omega arith) (omega arith))) ∙ walk-all (b .p) (sides (take (b .count) (b .t1))),
+      ap (walk (b .p) start) (sym (walk-start (b .t1) (b .count) (omega arith) (omega arith))) ∙ walk-all (b .p)
+          (sides (take (b .count) (b .t1))),
     )
 
 pass-requires : tie.Need-pass-requires Inv-loop μ-loop
@@ -45,7 +46,8 @@ loop-again c =
       omega arith,
       omega arith,
       near-first (b .args .t1) (b .args .count) (l .i) (omega arith) (omega arith) (b .pre .2),
-      rw (c .pass .ensures) (sym (walk-next (b .args .t1) (b .args .count) (l .i) (b .args .p) (l .s) (l .a) (omega arith) (omega arith)) ∙ l .inv .3),
+      rw (c .pass .ensures) (sym (walk-next (b .args .t1) (b .args .count) (l .i) (b .args .p) (l .s) (l .a) (omega arith)
+          (omega arith)) ∙ l .inv .3),
     )
 
 pass-requires-2 : tie.Need-pass-requires-2 Inv-loop μ-loop
@@ -60,7 +62,8 @@ returns c =
     let b = c .before .before .before .before in
     let l = c .before .before .loop in
     let len : length (b .args .t1) ≡ 64 = search needs in
-    c .pass2 .ensures ∙ sym (walk-end (b .args .t1) (b .args .count) (l .i) (b .args .p) (l .s) (l .a) (omega arith) (omega arith)) ∙ l .inv .3
+    c .pass2 .ensures ∙ sym (walk-end (b .args .t1) (b .args .count) (l .i) (b .args .p) (l .s) (l .a) (omega arith) (omega arith))
+    ∙ l .inv .3
 
 pub look-spec : {M : Type 1} → statement M
 look-spec =

@@ -14,7 +14,9 @@ minus-requires c κs =
     let q = c .before .before .pre in
     let f : SFits w32 (d .a .x) = search needs in
     let g : SFits w32 (d .p .x) = search needs in
-    (rw (toZ-ofZ f) (neither (farZ (d .a .x)) (farZ (d .a .y)) (q .1) .0), rw (toZ-ofZ g) (neither (farZ (d .p .x)) (farZ (d .p .y)) (q .0) .0))
+    let s = neither (farZ (d .a .x)) (farZ (d .a .y)) (q .1) in
+    let t = neither (farZ (d .p .x)) (farZ (d .p .y)) (q .0) in
+    (rw (toZ-ofZ f) (s .0), rw (toZ-ofZ g) (t .0))
 
 minus-requires-2 : tie.Need-minus-requires-2
 minus-requires-2 c κs =
@@ -22,7 +24,9 @@ minus-requires-2 c κs =
     let q = c .before .before .before .before .before .pre in
     let f : SFits w32 (d .b .y) = search needs in
     let g : SFits w32 (d .p .y) = search needs in
-    (rw (toZ-ofZ f) (neither (farZ (d .b .x)) (farZ (d .b .y)) (q .2) .1), rw (toZ-ofZ g) (neither (farZ (d .p .x)) (farZ (d .p .y)) (q .0) .1))
+    let s = neither (farZ (d .b .x)) (farZ (d .b .y)) (q .2) in
+    let t = neither (farZ (d .p .x)) (farZ (d .p .y)) (q .0) in
+    (rw (toZ-ofZ f) (s .1), rw (toZ-ofZ g) (t .1))
 
 returns : tie.Need-returns
 returns c =
