@@ -9,6 +9,7 @@ use lib.Dec.{ltb}
 use lib.ListN.{length, take}
 use lib.Seq.{length-take-le}
 use Rattle.de9im.specs.declared.refusal.Refusal.the-variants.{CornerCount, OutOfRange, EqualCorners}
+use Rattle.de9im.specs.declared.refusal.Spot.the-variants.{Nowhere}
 use Rattle.de9im.proofs.LawsBool.{told, neither}
 use Rattle.outline.specs.declared.corners.Corner.{Corner}
 use Rattle.outline.specs.declared.corners.Outline.{Outline}
@@ -16,6 +17,7 @@ use Rattle.outline.specs.declared.position.Located.the-variants.{Is, Ref
 use Rattle.outline.specs.Corners.{farCorner, someFar}
 use Rattle.outline.specs.Sides.{sides, someOf, equalEnds}
 use Rattle.outline.specs.Position.{positionOf}
+use Rattle.outline.specs.Answers.{locatedPlace}
 use Rattle.outline.specs.Answer.{wrongCount, checkedOf, answerOf, outlineOf}
 
 pub count-least : (n : ℕ) → wrongCount n ≡ false → 3 ≤ n
@@ -39,6 +41,19 @@ counted cs p e = rw e
 pub outline-listed : (o : Outline) (p : Corner) → o .count ≤ 64 → outlineOf o p ≡ answerOf (take (o .count) (o .corners)) p
 unfolding outlineOf
 outline-listed o p h = rw (le-ltb 64 (o .count) h)
+
+-- no refusal of an outline has a place
+pub answer-nowhere : (cs : List Corner) (p : Corner) → locatedPlace (answerOf cs p) ≡ Nowhere
+unfolding answerOf checkedOf
+answer-nowhere cs p =
+    by (wrongCount (length cs)) (someFar cs || farCorner p) (someOf equalEnds (sides cs))
+  where
+    by : (t f s : Bool)
+        → locatedPlace (cond t (Refused CornerCount) (cond f (Refused OutOfRange) (cond s (Refused EqualCorners) (Is (positionOf cs p))))) ≡ Nowhere
+    by true f s = refl
+    by false true s = refl
+    by false false true = refl
+    by false false false = refl
 
 -- an array of 64 corners, of which the first are the outline
 module _ (o : Outline) (p : Corner) (len : length (o .corners) ≡ 64) where

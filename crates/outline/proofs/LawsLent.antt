@@ -5,19 +5,23 @@ use mathlib.Core.Path.{_≡_, refl, sym, ap, _∙_}
 use mathlib.Core.List.{List, [], _∷_, reverse}
 use native.Mathlib.Omega.{arith}
 use native.Mathlib.Numerals.{add-one}
-use borrow.Author.Tests.{eq-eqb, ne-eqb}
+use borrow.Author.Tests.{eq-eqb, ne-eqb, eqb-true, eqb-false}
+use lib.Dec.{eqb}
 use lib.IntN.{ℤ, pos}
 use lib.ListN.{length, take, getD, set}
 use lib.Seq.{take-suc, take-suc-set, take-all}
 use Rattle.de9im.specs.declared.refusal.Refusal.the-variants.{CornerCount}
+use Rattle.de9im.specs.declared.refusal.Spot.the-variants.{Nowhere}
+use Rattle.de9im.proofs.LawsBool.{told}
 use Rattle.outline.specs.declared.corners.Corner.{Corner}
 use Rattle.outline.specs.declared.corners.Outline.{Outline}
 use Rattle.outline.specs.declared.position.Located.the-variants.{Refused}
 use Rattle.outline.specs.Corners.{corner}
 use Rattle.outline.specs.Sides.{startedAt}
 use Rattle.outline.specs.Answer.{answerOf, outlineOf, wrongCount}
+use Rattle.outline.specs.Answers.{locatedPlace}
 use Rattle.outline.specs.Lent.{cornersIn, lentOf, numbersOf}
-use Rattle.outline.proofs.LawsAnswer.{outline-listed, too-many, miscounted}
+use Rattle.outline.proofs.LawsAnswer.{outline-listed, too-many, miscounted, answer-nowhere}
 use Rattle.outline.proofs.LawsTurn.{started-elsewhere, reversed}
 use Rattle.outline.proofs.LawsWalk.{noCorner}
 
@@ -72,6 +76,11 @@ module _ (ns : List ℤ) (p : Corner) where
 
     pub lent-is : (o : Outline) → o .count ≤ 64 → take (o .count) (o .corners) ≡ cornersIn ns → outlineOf o p ≡ lentOf ns p
     lent-is o h f = outline-listed o p h ∙ ap (λ cs. answerOf cs p) f ∙ sym lent-even
+
+pub lent-nowhere : (ns : List ℤ) (p : Corner) → locatedPlace (lentOf ns p) ≡ Nowhere
+lent-nowhere ns p =
+    told (eqb (length ns % 2) 0) (λ e. ap locatedPlace (lent-even ns p (eqb-true (length ns % 2) 0 e)) ∙ answer-nowhere (cornersIn ns) p)
+    (λ e. ap locatedPlace (lent-odd ns p (eqb-false (length ns % 2) 0 e)))
 
 -- ---- the theorems
 

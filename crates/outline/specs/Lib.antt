@@ -4,6 +4,7 @@ pub mod Corners
 pub mod Sides
 pub mod Position
 pub mod Answer
+pub mod Answers
 pub mod Lent
 pub mod Meaning
 pub mod Inner
