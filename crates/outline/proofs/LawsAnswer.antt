@@ -49,7 +49,8 @@ answer-nowhere cs p =
     by (wrongCount (length cs)) (someFar cs || farCorner p) (someOf equalEnds (sides cs))
   where
     by : (t f s : Bool)
-        → locatedPlace (cond t (Refused CornerCount) (cond f (Refused OutOfRange) (cond s (Refused EqualCorners) (Is (positionOf cs p))))) ≡ Nowhere
+        → locatedPlace (cond t (Refused CornerCount) (cond f (Refused OutOfRange) (cond s (Refused EqualCorners) (Is (positionOf cs p)))))
+        ≡ Nowhere
     by true f s = refl
     by false true s = refl
     by false false true = refl
