@@ -6,14 +6,15 @@
 A plan is described below once, as records and as a drawing. A is a reader's cover area or path, B is a room. From that
 come NAME.plan (the bytes), NAME.txt (what is printed), NAME.svg (picture.py) and README.md. The matrix of each stands
 here as it follows from the picture, not as the program says it; the answers are read off it by document 01's table.
-`sh samples/check.sh` compares.
+`sh samples/check.sh` compares. The page's last picture is outline.py's, which asks the library.
 """
 import os
 import struct
 import sys
 
 sys.dont_write_bytecode = True
-from picture import gallery, svg  # noqa: E402 (no folder of compiled files beside the samples)
+from outline import SECTION  # noqa: E402 (no folder of compiled files beside the samples)
+from picture import gallery, svg  # noqa: E402
 
 HERE = os.path.dirname(os.path.abspath(__file__))
 NONE, I, B, E = 0, 1, 2, 3
@@ -190,7 +191,7 @@ def write(path, data):
 
 
 def main():
-    write(os.path.join(HERE, 'README.md'), gallery(PLANS))
+    write(os.path.join(HERE, 'README.md'), gallery(PLANS) + '\n' + SECTION)
     for plan in PLANS:
         at = os.path.join(HERE, plan['name'])
         write(at + '.plan', plan['bytes'])

@@ -47,8 +47,9 @@ static uint8_t *lent(pages p, const void *bytes, size_t count, int at_end) {
 typedef struct {
     uint8_t *cells, *text; /* nine bytes each; text is also a label's seven */
     const uint8_t *bytes;
+    const int32_t *xy;
     uint8_t *labels, *buffer;
-    size_t count;
+    size_t count; /* of bytes; of an outline, of numbers */
 } lendings;
 
 typedef uint32_t call(const lendings *l);
@@ -68,6 +69,7 @@ static uint32_t verdict_pattern(const lendings *l) { return misonkandi_verdict_p
 static uint32_t relate(const lendings *l) {
     return misonkandi_relate_places(MISONKANDI_BOX, 0, 0, 4, 4, MISONKANDI_BOX, 2, 2, 6, 6, l->cells);
 }
+static uint32_t point_in_outline(const lendings *l) { return misonkandi_point_in_outline(l->xy, l->count, 1, 0); }
 static uint32_t bundle(const lendings *l) { return misonkandi_bundle(l->bytes, l->count, l->text); }
 static uint32_t star(const lendings *l) { return misonkandi_star(l->bytes, l->count, 1, 0, l->labels); }
 static uint32_t record(const lendings *l) { return misonkandi_record(l->cells, l->bytes, l->count); }
@@ -85,9 +87,9 @@ static uint32_t convert_short(const lendings *l) {
 }
 
 /* The bytes that a call is given: a text, a predicate's name, ends, a record of a node or of an edge, a report, long or
- * short. */
+ * short. Or the numbers of an outline. */
 enum { NO_ROW = 8388607 }; /* MISONKANDI_NO_SUCH_ROW, read as a refusal */
-enum given { TEXT, NAME, ENDS, NODE, EDGE, REPORT, SHORT_REPORT };
+enum given { TEXT, NAME, ENDS, NODE, EDGE, OUTLINE, REPORT, SHORT_REPORT };
 
 static const struct {
     const char *name;
@@ -109,6 +111,7 @@ static const struct {
     {"verdict", verdict, TEXT, 0, 0},
     {"verdict_pattern", verdict_pattern, TEXT, 10, 0},
     {"relate_places", relate, TEXT, 0, 1},
+    {"point_in_outline", point_in_outline, OUTLINE, 16, 0},
     {"bundle", bundle, ENDS, 0, 0},
     {"star", star, ENDS, 0, 0},
     {"record, a node", record, NODE, 1, 1},
@@ -134,7 +137,17 @@ static void write_ends(uint8_t *to) {
     }
 }
 
-/* The bytes of one kind at their full length. */
+/* A saw of 64 corners: 63 along its teeth, each one high, and one far below. */
+enum { MOST_NUMBERS = 2 * MISONKANDI_MOST_CORNERS };
+static int32_t saw[MOST_NUMBERS];
+
+static void write_saw(void) {
+    int32_t x;
+    for (x = 0; x < 63; x++) saw[2 * x] = x, saw[2 * x + 1] = x % 2;
+    saw[126] = 31, saw[127] = -10;
+}
+
+/* The bytes of one kind at their full length; an outline's numbers are the saw's, and no bytes. */
 static size_t write_given(enum given given, uint8_t to[MISONKANDI_MOST_RECORD_BYTES]) {
     static const uint8_t node[9] = {1, 231, 1, MISONKANDI_NODE, 2, 3, 1, 0, 32};
     static const uint8_t edge[11] = {0, 9, 1, MISONKANDI_EDGE, MISONKANDI_AREA, 2, 1, 3, 2, 3, 1};
@@ -144,6 +157,7 @@ static size_t write_given(enum given given, uint8_t to[MISONKANDI_MOST_RECORD_BY
     case ENDS: write_ends(to); return 480;
     case NODE: memcpy(to, node, 9); write_ends(to + 9); return 489;
     case EDGE: memcpy(to, edge, 11); return 11;
+    case OUTLINE: return MOST_NUMBERS;
     case REPORT: memcpy(to, "\0\12\1" "210F21012", 12); return 12;
     default: memcpy(to, "\0\4\2" "\3\223\233", 6); return 6; /* 210F21012 */
     }
@@ -160,7 +174,8 @@ static uint32_t guarded_call(int k, const uint8_t *bytes, size_t count, int at_e
     l.cells = lent(room[0], start, 9, at_end);
     l.text = lent(room[1], nothing, calls[k].given == ENDS ? 7 : 9, at_end);
     l.labels = lent(room[2], nothing, 224, at_end);
-    l.bytes = lent(room[3], bytes, count, at_end);
+    if (calls[k].given == OUTLINE) l.xy = (const int32_t *)lent(room[3], saw, count * sizeof saw[0], at_end);
+    else l.bytes = lent(room[3], bytes, count, at_end);
     l.buffer = lent(room[4], nothing, count, at_end);
     l.count = count;
     return calls[k].call(&l);
@@ -192,7 +207,7 @@ static void nulls(void) {
         uint32_t word;
         memcpy(before, cells, 9);
         l.cells = cells, l.text = text, l.labels = labels;
-        l.bytes = NULL, l.buffer = NULL, l.count = 0;
+        l.bytes = NULL, l.xy = NULL, l.buffer = NULL, l.count = 0;
         word = calls[k].call(&l);
         same(calls[k].name, MISONKANDI_REFUSED(word) ? MISONKANDI_NUMBER(word) : 0, calls[k].none);
         if (calls[k].none != 0) same(calls[k].name, memcmp(cells, before, 9) == 0, 1);
@@ -313,6 +328,84 @@ static void reports(void) {
     }
 }
 
+/* ---- Outlines ---- */
+
+enum { IN = MISONKANDI_INSIDE, ON = MISONKANDI_ON_BOUNDARY, OUT = MISONKANDI_OUTSIDE };
+
+/* The numbers that an outline is refused for, and their order. */
+static void refused_outlines(void) {
+    static const int32_t far[] = {1000000001, -1000000001, INT32_MAX, INT32_MIN};
+    static const int32_t square[8] = {0, 0, 4, 0, 4, 4, 0, 4};
+    int32_t xy[MOST_NUMBERS + 2] = {0};
+    size_t count, k, at;
+    for (count = 0; count <= MOST_NUMBERS + 2; count++) /* all corners are equal, so 18 is due behind 16 and 17 */
+        if (count % 2 != 0 || count < 6 || count > MOST_NUMBERS) {
+            refused(misonkandi_point_in_outline(xy, count, 0, 0), MISONKANDI_REFUSAL_CORNER_COUNT, 0);
+            refused(misonkandi_point_in_outline(xy, count, INT32_MIN, 0), MISONKANDI_REFUSAL_CORNER_COUNT, 0);
+        } else {
+            refused(misonkandi_point_in_outline(xy, count, 0, 0), MISONKANDI_REFUSAL_EQUAL_CORNERS, 0);
+            refused(misonkandi_point_in_outline(xy, count, 0, INT32_MIN), MISONKANDI_REFUSAL_OUT_OF_RANGE, 0);
+        }
+    for (k = 0; k < sizeof far / sizeof far[0]; k++) {
+        for (at = 0; at < 8; at++) {
+            memcpy(xy, square, sizeof square);
+            xy[at] = far[k];
+            refused(misonkandi_point_in_outline(xy, 8, 1, 1), MISONKANDI_REFUSAL_OUT_OF_RANGE, 0);
+        }
+        refused(misonkandi_point_in_outline(square, 8, far[k], 1), MISONKANDI_REFUSAL_OUT_OF_RANGE, 0);
+        refused(misonkandi_point_in_outline(square, 8, 1, far[k]), MISONKANDI_REFUSAL_OUT_OF_RANGE, 0);
+    }
+    for (at = 0; at < MISONKANDI_MOST_CORNERS; at++) { /* each corner equal to the next, the last to the first */
+        memcpy(xy, saw, sizeof saw);
+        memcpy(xy + 2 * at, saw + 2 * (at + 1) % MOST_NUMBERS, 2 * sizeof saw[0]);
+        refused(misonkandi_point_in_outline(xy, MOST_NUMBERS, 1, 0), MISONKANDI_REFUSAL_EQUAL_CORNERS, 0);
+    }
+}
+
+/* The same corners from another start, and all of them the other way round. */
+static void turned(int32_t *to, const int32_t *xy, size_t corners, size_t from, int back) {
+    size_t k;
+    for (k = 0; k < corners; k++)
+        memcpy(to + 2 * k, xy + 2 * ((from + (back ? corners - k : k)) % corners), 2 * sizeof *to);
+}
+
+/* A point's answer, whatever the start and the way round. */
+static uint32_t located(const int32_t *xy, size_t numbers, int32_t x, int32_t y) {
+    int32_t other[MOST_NUMBERS];
+    uint32_t word = misonkandi_point_in_outline(xy, numbers, x, y);
+    size_t from;
+    for (from = 0; from < numbers / 2; from++) {
+        turned(other, xy, numbers / 2, from, 0);
+        SAME(misonkandi_point_in_outline(other, numbers, x, y), word);
+        turned(other, xy, numbers / 2, from, 1);
+        SAME(misonkandi_point_in_outline(other, numbers, x, y), word);
+    }
+    return word;
+}
+
+static void outlines(void) {
+    static const int32_t notched[] = {0, 0, 10, 0, 10, 6, 7, 6, 5, 3, 3, 6, 0, 6}, tie[] = {0, 0, 4, 4, 4, 0, 0, 4};
+    enum { MOST = 1000000000 };
+    static const int32_t slanted[] = {-MOST, -MOST, MOST, -MOST, MOST, MOST - 1};
+    int32_t x;
+    refused_outlines();
+    SAME(located(notched, 14, 2, 3), IN);  /* level with the corner (5, 3): three sides are crossed */
+    SAME(located(notched, 14, 5, 5), OUT); /* in the notch */
+    SAME(located(notched, 14, -1, 6), OUT);
+    SAME(located(notched, 14, 5, 6), OUT); /* between two walls that are level with it */
+    SAME(located(notched, 14, 8, 6), ON);
+    SAME(located(notched, 14, 5, 3), ON);
+    SAME(located(tie, 8, 1, 2), IN); /* where the outline crosses itself, by odd crossings */
+    SAME(located(tie, 8, 2, 1), OUT);
+    SAME(located(tie, 8, 2, 2), ON);
+    SAME(located(tie, 8, MOST, -MOST), OUT);
+    SAME(located(slanted, 6, 0, -1), IN); /* the long side passes half a unit below (0, 0) */
+    SAME(located(slanted, 6, 0, 0), OUT);
+    SAME(located(slanted, 6, MOST - 1, MOST - 2), IN); /* and 1/2,000,000,000 above this point */
+    SAME(located(slanted, 6, MOST, MOST - 1), ON);
+    for (x = 1; x < 62; x++) SAME(located(saw, MOST_NUMBERS, x, 0), x % 2 == 0 ? ON : IN);
+}
+
 /* ---- Larger numbers ---- */
 
 /* Cells above 3: read as 2, written as 3 by every accepted call that writes cells, and left by a refused one. */
@@ -323,7 +416,7 @@ static void larger(void) {
         int at;
         lendings l;
         memset(cells, 250, 9);
-        l.cells = cells, l.text = text, l.labels = labels, l.buffer = buffer, l.bytes = bytes;
+        l.cells = cells, l.text = text, l.labels = labels, l.buffer = buffer, l.bytes = bytes, l.xy = saw;
         l.count = write_given(calls[k].given, bytes);
         calls[k].call(&l);
         for (at = 0; at < 9; at++) same(calls[k].name, cells[at] <= 3, (unsigned long)calls[k].writes);
@@ -378,7 +471,7 @@ static void stack(void) {
     size_t deepest = 0, here;
     int k, which = 0;
     lendings l;
-    l.cells = cells, l.text = text, l.labels = labels, l.buffer = buffer, l.bytes = bytes;
+    l.cells = cells, l.text = text, l.labels = labels, l.buffer = buffer, l.bytes = bytes, l.xy = saw;
     l.count = write_given(calls[0].given, bytes);
     depth(0, &l); /* the first thread of a program has more to do than the next */
     for (k = 0; k < CALLS; k++) {
@@ -387,17 +480,19 @@ static void stack(void) {
         here = depth(k, &l);
         printf("%-16s %4lu bytes of stack\n", calls[k].name, (unsigned long)here);
         if (here > deepest) deepest = here, which = k;
-        if (calls[k].given < ENDS || calls[k].given >= REPORT) same(calls[k].name, here < 256, 1);
+        if (calls[k].given < ENDS || calls[k].given >= REPORT) same(calls[k].name, here < 400, 1);
     }
     printf("deepest: %s\n", calls[which].name);
     SAME(deepest < MISONKANDI_STACK_BYTES, 1);
 }
 
 int main(void) {
+    write_saw();
     all_counts();
     nulls();
     numbers();
     reports();
+    outlines();
     larger();
     stack();
     puts(wrong ? "the header is wrong" : "the library does what the header says at its edges");

@@ -1,4 +1,5 @@
-/* A plan record from bytes to nine letters, a predicate by its row and one by its name, and a refused pattern. */
+/* A plan record from bytes to nine letters, a predicate by its row and one by its name, a refused pattern, and points
+ * in an outline. */
 #include "misonkandi.h"
 #include <stdio.h>
 #include <string.h>
@@ -26,6 +27,18 @@ static void tell_pattern(const uint8_t cells[MISONKANDI_CELLS], const char *patt
         printf("%s refused %u\n", pattern, (unsigned)MISONKANDI_NUMBER(word));
 }
 
+/* A room with a notch in its upper wall: x and y of each corner in turn. */
+static const int32_t outline[] = {0, 0, 10, 0, 10, 6, 7, 6, 5, 3, 3, 6, 0, 6};
+
+static void tell_point(int32_t x, int32_t y) {
+    static const char *const where[] = {"", "inside", "on the boundary", "outside"};
+    uint32_t word = misonkandi_point_in_outline(outline, sizeof outline / sizeof outline[0], x, y);
+    if (!MISONKANDI_REFUSED(word))
+        printf("(%ld, %ld) %s\n", (long)x, (long)y, where[word]);
+    else
+        printf("(%ld, %ld) refused %u\n", (long)x, (long)y, (unsigned)MISONKANDI_NUMBER(word));
+}
+
 int main(void) {
     uint8_t cells[MISONKANDI_CELLS] = MISONKANDI_START, text[MISONKANDI_CELLS];
     uint32_t used = misonkandi_record(cells, record, sizeof record);
@@ -38,5 +51,9 @@ int main(void) {
     printf("touches %s\n", misonkandi_verdict(cells, row) == MISONKANDI_NO_FOR_GOOD ? "no, for good" : "perhaps");
     tell_pattern(cells, "T*T***T**");
     tell_pattern(cells, "T*X******");
+    tell_point(2, 3); /* level with the notch's corner (5, 3) */
+    tell_point(5, 5); /* in the notch */
+    tell_point(8, 6);
+    tell_point(2000000000, 3);
     return 0;
 }

@@ -1,12 +1,12 @@
 /* Misonkandi for C: DE-9IM matrices, their eleven predicates and patterns, and what fills a matrix: plan records, the
- * ends at a node, points and boxes, stored reports. `sh tools/library.sh` builds the library for the processor at hand,
- * target/native/libmisonkandi.a.
+ * ends at a node, points and boxes, stored reports; and a point in an outline. `sh tools/library.sh` builds the
+ * library for the processor at hand, target/native/libmisonkandi.a.
  *
  * Every function of the library is proved to answer what its contract says, for all bytes and numbers that it can be
  * given; this header says the same in words. Two duties are left to the caller:
  *
- *   - A pointer leads to as many bytes as its parameter says, or to `count` bytes, or `room`. Where that is 0 the
- *     pointer is not used and may be NULL; no other may.
+ *   - A pointer leads to as many bytes as its parameter says, or to `count` bytes, or `room`, or to `numbers`
+ *     numbers of 32 bits. Where that is 0 the pointer is not used and may be NULL; no other may.
  *   - What a call writes overlaps nothing else that the call is lent: the proofs don't cover that. Two that are only
  *     read may overlap.
  *
@@ -14,9 +14,10 @@
  * any threads may call at once, each on bytes of its own. Of the C library no more is needed than memcpy, memmove and
  * memset.
  *
- * Stack: MISONKANDI_STACK_BYTES are enough for any call. misonkandi_star takes most, about 4,900 bytes,
- * misonkandi_bundle 3,900, misonkandi_record 2,900, each other less than 256: measured on AArch64, on a painted stack
- * (bindings/c/run.sh, which fails at more than MISONKANDI_STACK_BYTES). No call leads back to itself.
+ * Stack: MISONKANDI_STACK_BYTES are enough for any call. misonkandi_star takes most, about 5,000 bytes,
+ * misonkandi_bundle 3,900, misonkandi_record 2,900, misonkandi_point_in_outline 1,400, each other less than 400:
+ * measured on x86-64, on a painted stack (bindings/c/run.sh, which fails at more than MISONKANDI_STACK_BYTES). No call
+ * leads back to itself.
  */
 #ifndef MISONKANDI_H
 #define MISONKANDI_H
@@ -69,7 +70,10 @@ enum misonkandi_refusals {
     MISONKANDI_REFUSAL_BAD_BYTE = 11,       /* bad byte in a text, pattern or report; the place is the first one's */
     MISONKANDI_REFUSAL_NO_ROOM = 12,        /* offset beyond the buffer, or fewer bytes from it than are written */
     MISONKANDI_REFUSAL_NOT_A_PLACE = 13,    /* coordinate not finite, box without min < max on an axis, kind above 1 */
-    MISONKANDI_REFUSAL_TOP_BITS = 14        /* one of the top six bits of a short report's cells set */
+    MISONKANDI_REFUSAL_TOP_BITS = 14,       /* one of the top six bits of a short report's cells set */
+    MISONKANDI_REFUSAL_CORNER_COUNT = 16,   /* outline not of 3 to 64 corners, or half a corner left over */
+    MISONKANDI_REFUSAL_OUT_OF_RANGE = 17,   /* coordinate of a corner or of the point beyond 1,000,000,000 in size */
+    MISONKANDI_REFUSAL_EQUAL_CORNERS = 18   /* two equal neighbouring corners, last and first included */
 };
 
 /* ---- The matrix ----
@@ -194,6 +198,24 @@ enum misonkandi_place_kinds {
  * comparisons are made; -0 equals 0. A point has no boundary. 0 and the cells written, or refusal 13. */
 uint32_t misonkandi_relate_places(uint32_t kind_a, double ax, double ay, double bx, double by,
                                   uint32_t kind_b, double cx, double cy, double dx, double dy, uint8_t cells[9]);
+
+/* ---- Outlines ----
+ *
+ * An outline is 3 to 64 corners in whole millimetres, as 6 to 128 numbers: x and y of each corner in turn. A side
+ * joins each corner to the next one, and the last to the first, which isn't given again at the end. Where the list
+ * starts and which way round it goes doesn't matter. Sides may cross or lie on each other.
+ *
+ * A point on a side or at a corner is MISONKANDI_ON_BOUNDARY. Any other is MISONKANDI_INSIDE if the half line from it
+ * towards positive x crosses an odd number of sides, else MISONKANDI_OUTSIDE; a side counts when exactly one of its
+ * ends lies strictly above the point's y. Nothing is rounded.
+ *
+ * Checked in this order: 16, for an odd count of numbers too; 17, of the corners and of the point; 18.
+ */
+#define MISONKANDI_MOST_CORNERS 64
+
+/* Where the point (x, y) lies against the outline: MISONKANDI_INSIDE, _ON_BOUNDARY or _OUTSIDE, or refusal 16, 17 or
+ * 18. The count is of numbers, twice that of corners. */
+uint32_t misonkandi_point_in_outline(const int32_t *xy, size_t numbers, int32_t x, int32_t y);
 
 /* ---- Labels and ends, bundles and stars ----
  *

@@ -5,10 +5,10 @@
  * A batch is its count (4 bytes), then for each call: operation, a (4), b (4), dimension, count of text bytes, the nine
  * cells with a guard of nine on either side (27), text (24). The answer to each: word (4), the 27 bytes, the text.
  *
- * If the count's highest bit is set, calls on ends, records and reports follow, and the other bits count their bytes.
- * For each: operation, a (4), b (4), offset (8), count of `out` (4), count of `bytes` (4), then out and bytes with a
- * guard of 16 before, between and after. The calls are made where these lie, and all comes back with the word in the
- * place of a. */
+ * If the count's highest bit is set, calls on ends, records, reports and outlines follow, and the other bits count
+ * their bytes. For each: operation, a (4), b (4), offset (8), count of `out` (4), count of `bytes` (4), then out and
+ * bytes with a guard of 16 before, between and after. The calls are made where these lie, but for an outline's, and all
+ * comes back with the word in the place of a. */
 #include "bare.h"
 #include "misonkandi.h"
 
@@ -19,6 +19,7 @@ enum { PLAN_BATCH = 1 << 20, PLAN_HEAD = 25, PLAN_GUARD = 16 };
 static uint8_t sent[BATCH * SENT];
 static uint8_t returned[BATCH * RETURNED];
 static uint8_t plans[PLAN_BATCH];
+static int32_t numbers[PLAN_BATCH / 4];
 
 static uint32_t word_at(const uint8_t *at)
 {
@@ -55,6 +56,17 @@ static void answer(const uint8_t *from, uint8_t *to)
         to[i] = (uint8_t)(word >> 8 * i);
 }
 
+/* Numbers must lie at a multiple of four. They are copied to where they do, guards too, and back. */
+static uint32_t outline_call(uint8_t *bytes, size_t count, uint32_t x, uint32_t y)
+{
+    uint8_t *stretch = bytes - PLAN_GUARD;
+    size_t all = count + 2 * PLAN_GUARD;
+    memcpy(numbers, stretch, all);
+    uint32_t word = misonkandi_point_in_outline(numbers + PLAN_GUARD / 4, count / 4, (int32_t)x, (int32_t)y);
+    memcpy(stretch, numbers, all);
+    return word;
+}
+
 static uint32_t plan_call(uint8_t operation, uint32_t a, uint32_t b, size_t offset, uint8_t *out, size_t out_count,
                           uint8_t *bytes, size_t count)
 {
@@ -66,6 +78,7 @@ static uint32_t plan_call(uint8_t operation, uint32_t a, uint32_t b, size_t offs
     case 4: return misonkandi_write_report(out, bytes, count, offset);
     case 5: return misonkandi_write_short_report(out, bytes, count, offset);
     case 6: return misonkandi_convert_report(bytes, count, out, out_count, offset);
+    case 7: return outline_call(bytes, count, a, b);
     }
     end(6);
     return 0;

@@ -2,10 +2,10 @@
  * GEOS's geometries are built before the clock starts. Before a line is timed, the library must give its answer to each pair. */
 #include "misonkandi.h"
 #include "places.h"
+#include "timing.h"
 #include <stdio.h>
 #include <stdlib.h>
 #include <string.h>
-#include <time.h>
 
 enum { INPUTS = 32768, ROUNDS = 12, PASSES = 8 };
 
@@ -42,18 +42,6 @@ static void time_rules(void)
                 by_the_rules(&pairs[i], letters);
             sink += (unsigned char)letters[4];
         }
-}
-
-/* Nanoseconds for one call, if that is better than the best so far. */
-static void round_of(void (*side)(void), int calls, double *best)
-{
-    struct timespec from, to;
-    clock_gettime(CLOCK_MONOTONIC, &from);
-    side();
-    clock_gettime(CLOCK_MONOTONIC, &to);
-    double each = ((double)(to.tv_sec - from.tv_sec) * 1e9 + (double)(to.tv_nsec - from.tv_nsec)) / calls;
-    if (*best == 0 || each < *best)
-        *best = each;
 }
 
 static void check(const char *name)

@@ -1,4 +1,5 @@
 /* Which pairs of places are asked. */
+#include "../outlines/draw.h"
 #include "places.h"
 #include <math.h>
 #include <stdio.h>
@@ -38,17 +39,6 @@ pair *grid_pairs(int n, long *count)
         for (long j = 0; j < k; j++)
             pairs[i * k + j] = (pair){set[i], set[j]};
     return pairs;
-}
-
-/* splitmix64, so that a run can be had again from its seed */
-static uint64_t state;
-
-static uint64_t draw(void)
-{
-    uint64_t z = (state += 0x9e3779b97f4a7c15u);
-    z = (z ^ (z >> 30)) * 0xbf58476d1ce4e5b9u;
-    z = (z ^ (z >> 27)) * 0x94d049bb133111ebu;
-    return z ^ (z >> 31);
 }
 
 /* From -size to size, size up to 1,000,000; small sizes make ties likely. Every second 0 is -0. */
@@ -113,7 +103,7 @@ pair *random_pairs(long count, uint64_t seed)
 {
     static const int64_t sizes[4] = {5, 100, 10000, 1000000};
     pair *pairs = room(count);
-    state = seed;
+    start_draws(seed);
     for (long i = 0; i < count; i++) {
         uint32_t a = draw() % 4 != 0, b = draw() % 4 != 0;
         pairs[i] = random_pair(a, b, sizes[i % 4]);
@@ -125,7 +115,7 @@ pair *random_pairs(long count, uint64_t seed)
 pair *kinds_pairs(uint32_t a, uint32_t b, long count, uint64_t seed)
 {
     pair *pairs = room(count);
-    state = seed;
+    start_draws(seed);
     for (long i = 0; i < count; i++)
         pairs[i] = random_pair(a, b, 100);
     return pairs;

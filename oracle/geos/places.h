@@ -2,7 +2,7 @@
 #ifndef PLACES_H
 #define PLACES_H
 
-#include <geos_c.h>
+#include "context.h"
 #include <stdint.h>
 
 /* Kind 0 is a point (x0, y0), 1 a box (x0, y0)-(x1, y1), as the library's kinds. */
@@ -37,8 +37,6 @@ pair *refused_pairs(long *count);
 pair *kinds_pairs(uint32_t a, uint32_t b, long count, uint64_t seed);
 
 /* geos.c: GEOS's side. A box goes in as a polygon, its ring walked either way round. */
-void start_geos(void);
-GEOSContextHandle_t geos(void);
 GEOSGeometry *geometry(const place *p, int clockwise);
 void by_geos(const GEOSGeometry *a, const GEOSGeometry *b, char letters[10]);
 

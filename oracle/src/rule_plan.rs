@@ -1,8 +1,9 @@
-//! Document 01's rules for plan records, and what each call on ends, records and reports must answer. The rules for
-//! reports stand in rule_report.rs.
+//! Document 01's rules for plan records, and what each call on ends, records, reports and outlines must answer. The
+//! rules for reports stand in rule_report.rs, those for outlines in rule_outline.rs.
 
 use crate::ours::plans::{LABELS, PlanCall, PlanOp};
 use crate::rule::{self, BAD_CODE, refusal};
+use crate::rule_outline;
 use crate::rule_report;
 use crate::rule_star::{
     self, LABEL_BYTES, Label, MOST_ENDS, Position, TOO_MANY_ENDS, WRONG_LENGTH, pour_label,
@@ -14,7 +15,7 @@ pub const BAD_VERSION: u32 = refusal(2);
 pub const BAD_KIND: u32 = refusal(3);
 
 /// The numbers that each function can give: a run that doesn't meet all of them has looked at too little.
-pub const REACHABLE: [(PlanOp, &[u32]); 7] = [
+pub const REACHABLE: [(PlanOp, &[u32]); 8] = [
     (PlanOp::Bundle, &[4, 5, 6, 7, 8]),
     (PlanOp::Star, &[4, 5, 6, 7, 8, 9]),
     (PlanOp::Record, &[1, 2, 3, 4, 5, 6, 7, 8, 9]),
@@ -22,6 +23,7 @@ pub const REACHABLE: [(PlanOp, &[u32]); 7] = [
     (PlanOp::WriteReport, &[12]),
     (PlanOp::WriteShortReport, &[12]),
     (PlanOp::ConvertReport, &[1, 2, 4, 11, 12, 14]),
+    (PlanOp::PointInOutline, &[16, 17, 18]),
 ];
 
 /// What a call must answer, and every byte that it was lent, afterwards.
@@ -41,12 +43,13 @@ pub fn outcome(call: &PlanCall) -> PlanOutcome {
         PlanOp::WriteReport => put(call, &rule_report::long(&call.cells())),
         PlanOp::WriteShortReport => put(call, &rule_report::short(&call.cells())),
         PlanOp::ConvertReport => written(call, convert(call)),
+        PlanOp::PointInOutline => same(call, rule_outline::word(&call.numbers(), call.point())),
     }
 }
 
 /// "A refusal returns the matrix given (.. bundles and stars: none, and no label), bytes used 0, and no byte of a
-/// buffer differs."
-fn refused(call: &PlanCall, word: u32) -> PlanOutcome {
+/// buffer differs." A point in an outline writes nothing at all.
+fn same(call: &PlanCall, word: u32) -> PlanOutcome {
     PlanOutcome {
         word,
         out: call.out.clone(),
@@ -62,7 +65,7 @@ fn written(call: &PlanCall, result: Result<(u32, Vec<u8>), u32>) -> PlanOutcome 
             out,
             bytes: call.bytes.clone(),
         },
-        Err(word) => refused(call, word),
+        Err(word) => same(call, word),
     }
 }
 
@@ -161,7 +164,7 @@ fn put(call: &PlanCall, report: &[u8]) -> PlanOutcome {
             out: call.out.clone(),
             bytes,
         },
-        Err(word) => refused(call, word),
+        Err(word) => same(call, word),
     }
 }
 

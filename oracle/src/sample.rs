@@ -13,6 +13,7 @@ use crate::pieces::{
 use crate::random::Random;
 use crate::rule::{self, Outcome};
 use crate::sample_line::{self, Case};
+use crate::sample_outlines;
 use crate::sample_plans;
 use crate::sample_reports;
 use crate::sample_verdicts;
@@ -69,7 +70,13 @@ pub fn main() {
     lines.push_str(sample_plans::HEAD);
     plans.extend(sample_plans::more_calls());
     plans.extend(sample_reports::calls());
-    sample_plans::write_lines(&mut lines, &plans);
+    let mut met = sample_plans::write_lines(&mut lines, &plans);
+    lines.push_str(sample_outlines::HEAD);
+    met.extend(sample_plans::write_lines(
+        &mut lines,
+        &sample_outlines::calls(),
+    ));
+    sample_plans::check_met(&met);
     print!("{lines}");
 }
 

@@ -1,4 +1,4 @@
-//! The sample's lines of bundles, stars, plan records and stored reports.
+//! The sample's lines of bundles, stars, plan records and stored reports, and the writing of these and of outlines.
 
 use crate::asked_star::{self, PlanSaid};
 use crate::ours::plans::{PlanCall, PlanOp};
@@ -17,6 +17,9 @@ const SMALL_RECORD: usize = 64;
 const SMALL_STAR: usize = 4;
 /// Of the whole ones, so that the small ones don't hang on them.
 const SEED: u64 = 7;
+
+/// A call, and the number of a refusal that it gives.
+pub type Met = (PlanOp, u32);
 
 pub const HEAD: &str = "\
 # B misonkandi_bundle, K misonkandi_star, the ends given, a and b the area codes; what they may write holds nines before.
@@ -299,17 +302,23 @@ fn letter(op: PlanOp) -> char {
         PlanOp::WriteReport => 'E',
         PlanOp::WriteShortReport => 'F',
         PlanOp::ConvertReport => 'C',
+        PlanOp::PointInOutline => 'I',
     }
 }
 
-/// Writes the lines, which must have each number that each call can give.
-pub fn write_lines(lines: &mut String, calls: &[PlanCall]) {
+/// Writes the lines, and answers which refusals they have.
+pub fn write_lines(lines: &mut String, calls: &[PlanCall]) -> Vec<Met> {
     let mut met = Vec::new();
     for call in calls {
         let due = outcome(call);
         met.extend(rule::number(due.word).map(|number| (call.op, number)));
         write_line(lines, call, &due);
     }
+    met
+}
+
+/// The lines must have each number that each call can give.
+pub fn check_met(met: &[Met]) {
     for (op, numbers) in REACHABLE {
         let all = numbers.iter().all(|number| met.contains(&(op, *number)));
         assert!(all, "{}: a refusal isn't in the sample", op.name());
@@ -325,6 +334,12 @@ fn write_line(lines: &mut String, call: &PlanCall, due: &PlanOutcome) {
         due: &due.out,
         ..Case::default()
     };
+    // An outline's numbers have their low byte first in a call, their high byte first in a line.
+    let numbers: Vec<u8> = call
+        .numbers()
+        .iter()
+        .flat_map(|x| x.to_be_bytes())
+        .collect();
     // Converting is lent a report and a buffer: the one after the other.
     let both = [&call.bytes[..], &call.out].concat();
     let both_due = [&due.bytes[..], &due.out].concat();
@@ -340,6 +355,10 @@ fn write_line(lines: &mut String, call: &PlanCall, due: &PlanOutcome) {
             case.dimension = call.bytes.len() as u8;
             case.given = &both;
             case.due = &both_due;
+        }
+        PlanOp::PointInOutline => {
+            (case.a, case.b) = (call.a, call.b);
+            case.given = &numbers;
         }
     }
     case.write(lines, letter(call.op));

@@ -80,6 +80,7 @@ mod declared {
             room: usize,
             offset: usize,
         ) -> u32;
+        pub fn misonkandi_point_in_outline(xy: *const i32, numbers: usize, x: i32, y: i32) -> u32;
     }
 }
 
@@ -160,4 +161,9 @@ pub fn convert_report(bytes: &[u8], buffer: &mut [u8], offset: usize) -> u32 {
     // SAFETY: each pointer and count are those of one slice. The bytes are lent to be read until the call ends, the
     // buffer is lent to nobody else until then, and so lies elsewhere.
     unsafe { declared::misonkandi_convert_report(bytes.as_ptr(), bytes.len(), start, room, offset) }
+}
+
+pub fn point_in_outline(xy: &[i32], x: i32, y: i32) -> u32 {
+    // SAFETY: pointer and count are those of one slice, lent to be read until the call ends.
+    unsafe { declared::misonkandi_point_in_outline(xy.as_ptr(), xy.len(), x, y) }
 }

@@ -21,6 +21,8 @@
 //! # Ok::<(), Refusal>(())
 //! ```
 //!
+//! [`Outline`] says where a point lies against a room's walls.
+//!
 //! What differs from geo: a refusal is a number and a place, not a text; a bad letter of a pattern is refused on every
 //! matrix; raising from text is all or nothing; `set`, `set_at_least` and their kin are public. docs/DIFFERENCES.md has the
 //! list, and what was run to know it.
@@ -36,6 +38,7 @@ extern crate alloc;
 #[allow(unsafe_code)]
 mod c;
 mod matrix;
+mod outline;
 mod place;
 mod positions;
 mod predicate;
@@ -46,6 +49,7 @@ mod star;
 mod verdict;
 
 pub use matrix::IntersectionMatrix;
+pub use outline::{MOST_CORNERS, Outline, point_in_outline};
 pub use place::{Coord, Place, relate_coded};
 pub use positions::{CoordPos, Dimensions};
 pub use predicate::{NoSuchPredicate, Predicate};

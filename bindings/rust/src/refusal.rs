@@ -1,4 +1,4 @@
-//! Why a call was refused: document 01's thirteen numbers, and request R-3's.
+//! Why a call was refused: document 01's thirteen numbers, and those of requests.
 
 use core::error::Error;
 use core::fmt;
@@ -7,11 +7,12 @@ use crate::c;
 
 /// Why a call was refused. A refused call changes nothing that it was lent.
 ///
-/// The numbers are those of document 01's table "Numbers the caller sees", and 14 is request R-3's of document 02. Under
-/// which condition each is given, and in which order they are looked at, is proved of the operation that gives it:
-/// `crates/de9im/specs/Patterns.antt` and `Text.antt` for 10 and 11, `crates/plan/specs/Record.antt` for records,
-/// `crates/report/specs/Report.antt` and `Converting.antt` for reports, `crates/star/specs/Calls.antt` for ends,
-/// `crates/place/specs/Relate.antt` for 13.
+/// The numbers are those of document 01's table "Numbers the caller sees"; 14 is request R-3's of document 02, and 16
+/// to 18 are R-8's. Under which condition each is given, and in which order they are looked at, is proved of the
+/// operation that gives it: `crates/de9im/specs/Patterns.antt` and `Text.antt` for 10 and 11,
+/// `crates/plan/specs/Record.antt` for records, `crates/report/specs/Report.antt` and `Converting.antt` for reports,
+/// `crates/star/specs/Calls.antt` for ends, `crates/place/specs/Relate.antt` for 13,
+/// `crates/outline/specs/Answer.antt` for outlines.
 #[derive(Clone, Copy, Debug, PartialEq, Eq, Hash)]
 #[non_exhaustive]
 pub enum Refusal {
@@ -43,6 +44,12 @@ pub enum Refusal {
     NotAPlace,
     /// 14: one of the top six bits of a short report's cells is set.
     TopBits,
+    /// 16: an outline without 3 to 64 corners; of numbers, an odd count too.
+    CornerCount,
+    /// 17: a coordinate beyond ±1,000,000,000, a corner's or the point's.
+    OutOfRange,
+    /// 18: two equal neighbouring corners, last and first included.
+    EqualCorners,
 }
 
 /// The name of geo's error of `matches` and `from_str`. Here it is the refusal, which has a number and a place where
@@ -50,7 +57,7 @@ pub enum Refusal {
 pub type InvalidInputError = Refusal;
 
 impl Refusal {
-    /// Its number, 1 to 14.
+    /// Its number, 1 to 14 or 16 to 18.
     #[must_use]
     pub const fn number(self) -> u32 {
         match self {
@@ -68,6 +75,9 @@ impl Refusal {
             Refusal::NoRoom => 12,
             Refusal::NotAPlace => 13,
             Refusal::TopBits => 14,
+            Refusal::CornerCount => 16,
+            Refusal::OutOfRange => 17,
+            Refusal::EqualCorners => 18,
         }
     }
 
@@ -98,6 +108,9 @@ impl Refusal {
             12 => Refusal::NoRoom,
             13 => Refusal::NotAPlace,
             14 => Refusal::TopBits,
+            16 => Refusal::CornerCount,
+            17 => Refusal::OutOfRange,
+            18 => Refusal::EqualCorners,
             _ => unreachable!("the library is proved to give no such word: {word}"),
         }
     }
@@ -118,6 +131,9 @@ impl Refusal {
             Refusal::NoRoom => "no room from the offset",
             Refusal::NotAPlace => "a coordinate not finite, or a box without min < max",
             Refusal::TopBits => "a top bit of a short report's cells set",
+            Refusal::CornerCount => "an outline without 3 to 64 corners",
+            Refusal::OutOfRange => "a coordinate beyond 1,000,000,000",
+            Refusal::EqualCorners => "two equal neighbouring corners",
         }
     }
 }

@@ -4,8 +4,8 @@ use std::collections::BTreeSet;
 use std::fs;
 
 use misonkandi::{
-    CoordPos, Dimensions, END_BYTES, LABEL_BYTES, MOST_ENDS, MOST_RECORD_BYTES, NoSuchPredicate,
-    Predicate, REPORT_BYTES, Refusal, SHORT_REPORT_BYTES,
+    CoordPos, Dimensions, END_BYTES, LABEL_BYTES, MOST_CORNERS, MOST_ENDS, MOST_RECORD_BYTES,
+    NoSuchPredicate, Predicate, REPORT_BYTES, Refusal, SHORT_REPORT_BYTES,
 };
 
 const FOLDER: &str = env!("CARGO_MANIFEST_DIR");
@@ -63,7 +63,7 @@ fn the_header_s_functions_are_the_crate_s() {
     let (header, crate_s) = (header(), read("src/c.rs"));
     let names = declared(&header);
     assert_eq!(names, declared(&crate_s));
-    assert_eq!(names.len(), 20);
+    assert_eq!(names.len(), 21);
 }
 
 /// The value of a name of the header, from its `#define` or its enum. An enum's case without a number follows the last.
@@ -150,6 +150,9 @@ fn the_header_s_numbers_are_the_crate_s() {
         ("NO_ROOM", Refusal::NoRoom),
         ("NOT_A_PLACE", Refusal::NotAPlace),
         ("TOP_BITS", Refusal::TopBits),
+        ("CORNER_COUNT", Refusal::CornerCount),
+        ("OUT_OF_RANGE", Refusal::OutOfRange),
+        ("EQUAL_CORNERS", Refusal::EqualCorners),
     ];
     for (name, refusal) in refusals {
         let name = format!("REFUSAL_{name}");
@@ -158,6 +161,7 @@ fn the_header_s_numbers_are_the_crate_s() {
     let sizes = [
         ("LABEL_BYTES", LABEL_BYTES),
         ("END_BYTES", END_BYTES),
+        ("MOST_CORNERS", MOST_CORNERS),
         ("MOST_ENDS", MOST_ENDS),
         ("MOST_RECORD_BYTES", MOST_RECORD_BYTES),
         ("REPORT_BYTES", REPORT_BYTES),

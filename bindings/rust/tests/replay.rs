@@ -5,9 +5,9 @@ use std::collections::BTreeMap;
 use std::fs;
 
 use misonkandi::{
-    CoordPos, END_BYTES, EdgeEnd, IntersectionMatrix, LABEL_BYTES, Label, MOST_ENDS, Place,
-    Predicate, Refusal, Verdict, bundle, bundle_of_bytes, convert_report, relate_coded, star,
-    star_of_bytes,
+    CoordPos, END_BYTES, EdgeEnd, IntersectionMatrix, LABEL_BYTES, Label, MOST_ENDS, Outline,
+    Place, Predicate, Refusal, Verdict, bundle, bundle_of_bytes, convert_report, point_in_outline,
+    relate_coded, star, star_of_bytes,
 };
 
 const FOLDER: &str = concat!(env!("CARGO_MANIFEST_DIR"), "/../../crates/replay/");
@@ -316,6 +316,27 @@ fn place_case(case: &Case) {
     }
 }
 
+/// I: a point (a, b) against the corners of the numbers given, four bytes each and two's complement. As numbers and,
+/// where these are whole corners, as an outline, which is refused where the point (0, 0) would be.
+fn outline_case(case: &Case) {
+    assert_eq!(case.due, [], "it writes nothing");
+    let (x, y) = (case.a as i32, case.b as i32);
+    let (fours, rest) = case.given.as_chunks::<4>();
+    assert_eq!(rest, [], "numbers of four bytes");
+    let xy = fours.iter().map(|bytes| i32::from_be_bytes(*bytes));
+    let xy = xy.collect::<Vec<_>>();
+    let answer = point_in_outline(&xy, x, y);
+    case.says(answer.map(|position| CoordPos::code(Some(position)).into()));
+    let (pairs, []) = xy.as_chunks::<2>() else {
+        return;
+    };
+    let corners = pairs.iter().map(|&[x, y]| (x, y)).collect::<Vec<_>>();
+    match Outline::new(&corners) {
+        Ok(outline) => assert_eq!(outline.coordinate_position((x, y)), answer),
+        Err(refusal) => assert_eq!(point_in_outline(&xy, 0, 0), Err(refusal)),
+    }
+}
+
 #[test]
 fn every_stored_answer() {
     let samples = fs::read_to_string(format!("{FOLDER}stdin")).expect("the stored answers");
@@ -330,6 +351,7 @@ fn every_stored_answer() {
             'B' | 'K' => ends_case(kind, &case),
             'N' | 'D' | 'E' | 'F' | 'C' => record_case(kind, &case),
             'G' => place_case(&case),
+            'I' => outline_case(&case),
             _ => panic!("no such kind of line: {line}"),
         }
         *seen.entry(kind).or_default() += 1;
@@ -339,7 +361,7 @@ fn every_stored_answer() {
     }
     assert_eq!(
         seen.len(),
-        20,
+        21,
         "a kind of line for each call of the library"
     );
     // No line was passed over: the replay of the C interface has the same number.

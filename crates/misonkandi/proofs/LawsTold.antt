@@ -16,12 +16,20 @@ use Rattle.de9im.specs.declared.refusal.Refusal.the-variants as R
 use Rattle.de9im.specs.Answers.{checkedPlace, matchedPlace, answerPlace, usedOf}
 use Rattle.de9im.specs.Refused.{numberOf, placeOf, spotNo}
 use Rattle.de9im.proofs.LawsApart.{impossible}
+use Rattle.de9im.specs.declared.«coordinate_position».CoordPos.{CoordPos}
+use Rattle.de9im.specs.declared.«coordinate_position».CoordPos.the-variants.{Inside, OnBoundary, Outside}
+use Rattle.de9im.specs.Position.{known}
+use Rattle.star.specs.Label.{codeOf}
+use Rattle.outline.specs.declared.position.Located.{Located}
+use Rattle.outline.specs.declared.position.Located.the-variants as L
+use Rattle.outline.specs.Answers.{locatedPlace}
 use Rattle.verdict.specs.declared.Verdict.{Verdict}
 use Rattle.verdict.specs.declared.Verdict.the-variants.{NoForGood, YesForGood, Open}
 use Rattle.verdict.specs.declared.pattern.Judged.{Judged}
 use Rattle.verdict.specs.declared.pattern.Judged.the-variants as J
 use Rattle.misonkandi.specs.Records.{answerWord}
 use Rattle.verdict.specs.Answers.{judgedPlace}
+use Rattle.misonkandi.specs.Outlines.{locatedWord}
 use Rattle.misonkandi.specs.Verdicts.{verdictNo, judgedWord}
 use Rattle.misonkandi.specs.Words.{refusalWord, noSuchRow, matchedWord, wordOr, checkedWord}
 use Rattle.de9im.proofs.LawsRefused.{numbered}
@@ -36,24 +44,24 @@ abbrev refusalAt : ℕ → ℕ → Refusal
 refusalAt n k = getD (refusals k) n R.Short
 
 -- a refusal is the one with its number and its place
-known : (r : Refusal) → r ≡ refusalAt (numberOf r) (spotNo (placeOf r))
-known R.Short = refl
-known R.Version = refl
-known R.Kind = refl
-known R.Length = refl
-known R.Ends = refl
-known R.PositionCode = refl
-known R.LabelKind = refl
-known R.Direction = refl
-known R.MissingLeft = refl
-known R.NotNineBytes = refl
-known (R.BadByte k) = refl
-known R.NoRoom = refl
-known R.NotAPlace = refl
-known R.TopBits = refl
-known R.CornerCount = refl
-known R.OutOfRange = refl
-known R.EqualCorners = refl
+refusal-known : (r : Refusal) → r ≡ refusalAt (numberOf r) (spotNo (placeOf r))
+refusal-known R.Short = refl
+refusal-known R.Version = refl
+refusal-known R.Kind = refl
+refusal-known R.Length = refl
+refusal-known R.Ends = refl
+refusal-known R.PositionCode = refl
+refusal-known R.LabelKind = refl
+refusal-known R.Direction = refl
+refusal-known R.MissingLeft = refl
+refusal-known R.NotNineBytes = refl
+refusal-known (R.BadByte k) = refl
+refusal-known R.NoRoom = refl
+refusal-known R.NotAPlace = refl
+refusal-known R.TopBits = refl
+refusal-known R.CornerCount = refl
+refusal-known R.OutOfRange = refl
+refusal-known R.EqualCorners = refl
 
 -- a byte beside a multiple of 256
 digits : (n k m j : ℕ) → k < 256 → j < 256 → 2147483648 + (256 * n + k) ≡ 2147483648 + (256 * m + j) → (n ≡ m) × (k ≡ j)
@@ -62,7 +70,7 @@ digits n k m j h i e = (omega arith, omega arith)
 pub refusal-told : (r q : Refusal) → spotNo (placeOf r) < 256 → spotNo (placeOf q) < 256 → refusalWord r ≡ refusalWord q → r ≡ q
 refusal-told r q h i e =
     let d = digits (numberOf r) (spotNo (placeOf r)) (numberOf q) (spotNo (placeOf q)) h i e in
-    known r ∙ ap (λ n. refusalAt n (spotNo (placeOf r))) (d .0) ∙ ap (λ k. refusalAt (numberOf q) k) (d .1) ∙ sym (known q)
+    refusal-known r ∙ ap (λ n. refusalAt n (spotNo (placeOf r))) (d .0) ∙ ap (λ k. refusalAt (numberOf q) k) (d .1) ∙ sym (refusal-known q)
 
 -- from 2^31 on, and below the word for no such row
 pub refusal-high : (r : Refusal) → 2147483648 ≤ refusalWord r
@@ -135,3 +143,23 @@ judged-told (J.Is v) (J.Is w) h i e = ap J.Is (verdict-told v w e)
 judged-told (J.Is v) (J.Refused q) h i e = no-answer (verdictNo v) q (omega (arith, verdict-small v)) e
 judged-told (J.Refused r) (J.Is w) h i e = no-answer (verdictNo w) r (omega (arith, verdict-small w)) (sym e)
 judged-told (J.Refused r) (J.Refused q) h i e = ap J.Refused (refusal-told r q h i e)
+
+-- positions of a point
+abbrev positionAt : ℕ → CoordPos
+positionAt n = getD (Outside ∷ Inside ∷ OnBoundary ∷ []) n Outside
+
+position-known : (p : CoordPos) → p ≡ positionAt (codeOf (known p))
+position-known Inside = refl
+position-known OnBoundary = refl
+position-known Outside = refl
+
+position-small : (p : CoordPos) → codeOf (known p) < 4
+position-small Inside = omega arith
+position-small OnBoundary = omega arith
+position-small Outside = omega arith
+
+pub located-told : (a b : Located) → spotNo (locatedPlace a) < 256 → spotNo (locatedPlace b) < 256 → locatedWord a ≡ locatedWord b → a ≡ b
+located-told (L.Is p) (L.Is q) h i e = ap L.Is (position-known p ∙ ap positionAt e ∙ sym (position-known q))
+located-told (L.Is p) (L.Refused q) h i e = no-answer (codeOf (known p)) q (omega (arith, position-small p)) e
+located-told (L.Refused r) (L.Is q) h i e = no-answer (codeOf (known q)) r (omega (arith, position-small q)) (sym e)
+located-told (L.Refused r) (L.Refused q) h i e = ap L.Refused (refusal-told r q h i e)

@@ -5,3 +5,4 @@ pub mod Records
 pub mod Places
 pub mod Stars
 pub mod Verdicts
+pub mod Outlines

@@ -38,6 +38,10 @@ pub counted : (cs : List Corner) (p : Corner) → wrongCount (length cs) ≡ fal
 unfolding answerOf
 counted cs p e = rw e
 
+pub outline-many : (o : Outline) (p : Corner) → 64 < o .count → outlineOf o p ≡ Refused CornerCount
+unfolding outlineOf
+outline-many o p h = rw (lt-ltb 64 (o .count) h)
+
 pub outline-listed : (o : Outline) (p : Corner) → o .count ≤ 64 → outlineOf o p ≡ answerOf (take (o .count) (o .corners)) p
 unfolding outlineOf
 outline-listed o p h = rw (le-ltb 64 (o .count) h)
@@ -56,41 +60,22 @@ answer-nowhere cs p =
     by false false true = refl
     by false false false = refl
 
--- an array of 64 corners, of which the first are the outline
-module _ (o : Outline) (p : Corner) (len : length (o .corners) ≡ 64) where
-  first-length : o .count ≤ 64 → length (take (o .count) (o .corners)) ≡ o .count
-  first-length h = length-take-le (o .count) (o .corners) (omega arith)
+-- each refusal in its turn, and the position
+module _ (cs : List Corner) (p : Corner) (e : wrongCount (length cs) ≡ false) where
+  pub is-far : someFar cs ≡ true → answerOf cs p ≡ Refused OutOfRange
+  unfolding checkedOf
+  is-far f = counted cs p e ∙ rw f
 
-  pub is-count : wrongCount (o .count) ≡ true → outlineOf o p ≡ Refused CornerCount
-  unfolding outlineOf
-  is-count e =
-      told (ltb 64 (o .count)) (λ h. rw h) (λ h.
-      let l = first-length (ltb-false 64 (o .count) h) in
-      rw h (miscounted (take (o .count) (o .corners)) p (rw l e)))
-
-  module _ (e : wrongCount (o .count) ≡ false) where
-    abbrev cs : List Corner
-    cs = take (o .count) (o .corners)
-
-    is-checked : outlineOf o p ≡ checkedOf cs p
-    is-checked =
-        let h = count-most (o .count) e in
-        outline-listed o p h ∙ counted cs p (rw (first-length h) e)
-
-    pub is-far : someFar cs ≡ true → outlineOf o p ≡ Refused OutOfRange
+  module _ (f : someFar cs ≡ false) where
+    pub is-far-point : farCorner p ≡ true → answerOf cs p ≡ Refused OutOfRange
     unfolding checkedOf
-    is-far f = is-checked ∙ rw f
+    is-far-point g = counted cs p e ∙ rw (f, g)
 
-    module _ (f : someFar cs ≡ false) where
-      pub is-far-point : farCorner p ≡ true → outlineOf o p ≡ Refused OutOfRange
+    module _ (g : farCorner p ≡ false) where
+      pub is-same : someOf equalEnds (sides cs) ≡ true → answerOf cs p ≡ Refused EqualCorners
       unfolding checkedOf
-      is-far-point g = is-checked ∙ rw (f, g)
+      is-same h = counted cs p e ∙ rw (f, g, h)
 
-      module _ (g : farCorner p ≡ false) where
-        pub is-same : someOf equalEnds (sides cs) ≡ true → outlineOf o p ≡ Refused EqualCorners
-        unfolding checkedOf
-        is-same h = is-checked ∙ rw (f, g, h)
-
-        pub is-at : someOf equalEnds (sides cs) ≡ false → outlineOf o p ≡ Is (positionOf cs p)
-        unfolding checkedOf
-        is-at h = is-checked ∙ rw (f, g, h)
+      pub is-at : someOf equalEnds (sides cs) ≡ false → answerOf cs p ≡ Is (positionOf cs p)
+      unfolding checkedOf
+      is-at h = counted cs p e ∙ rw (f, g, h)

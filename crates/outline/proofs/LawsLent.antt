@@ -1,5 +1,5 @@
--- Corners gathered from a run of numbers, two a corner; a run started at another corner, or with its corners reversed, has the same
--- answer. Assumes nothing.
+-- Corners in a run of numbers, two a corner, and the numbers of corners; a run started at another corner, or with its corners
+-- reversed, has the same answer. Assumes nothing.
 use Prim.Native.Nat.{ℕ, zero, suc, _+_, _*_, _/_, _%_, _≤_, _<_}
 use mathlib.Core.Path.{_≡_, refl, sym, ap, _∙_}
 use mathlib.Core.List.{List, [], _∷_, reverse}
@@ -8,7 +8,7 @@ use native.Mathlib.Numerals.{add-one}
 use borrow.Author.Tests.{eq-eqb, ne-eqb, eqb-true, eqb-false}
 use lib.Dec.{eqb}
 use lib.IntN.{ℤ, pos}
-use lib.ListN.{length, take, getD, set}
+use lib.ListN.{length, take, getD, set, length-set}
 use lib.Seq.{take-suc, take-suc-set, take-all}
 use Rattle.de9im.specs.declared.refusal.Refusal.the-variants.{CornerCount}
 use Rattle.de9im.specs.declared.refusal.Spot.the-variants.{Nowhere}
@@ -16,14 +16,13 @@ use Rattle.de9im.proofs.LawsBool.{told}
 use Rattle.outline.specs.declared.corners.Corner.{Corner}
 use Rattle.outline.specs.declared.corners.Outline.{Outline}
 use Rattle.outline.specs.declared.position.Located.the-variants.{Refused}
-use Rattle.outline.specs.Corners.{corner}
+use Rattle.outline.specs.Corners.{corner, noCorner}
 use Rattle.outline.specs.Sides.{startedAt}
-use Rattle.outline.specs.Answer.{answerOf, outlineOf, wrongCount}
+use Rattle.outline.specs.Answer.{answerOf, outlineOf}
 use Rattle.outline.specs.Answers.{locatedPlace}
 use Rattle.outline.specs.Lent.{cornersIn, lentOf, numbersOf}
-use Rattle.outline.proofs.LawsAnswer.{outline-listed, too-many, miscounted, answer-nowhere}
+use Rattle.outline.proofs.LawsAnswer.{outline-listed, answer-nowhere}
 use Rattle.outline.proofs.LawsTurn.{started-elsewhere, reversed}
-use Rattle.outline.proofs.LawsWalk.{noCorner}
 
 pub corners-length : (ns : List ℤ) → length (cornersIn ns) ≡ length ns / 2
 unfolding cornersIn
@@ -31,7 +30,7 @@ corners-length [] = refl
 corners-length (x ∷ []) = refl
 corners-length (x ∷ y ∷ ns) = omega (arith, corners-length ns)
 
-corner-at : (ns : List ℤ) (k : ℕ) → k < length ns / 2
+pub corner-at : (ns : List ℤ) (k : ℕ) → k < length ns / 2
     → getD (cornersIn ns) k noCorner ≡ corner (getD ns (2 * k) (pos 0)) (getD ns (2 * k + 1) (pos 0))
 unfolding cornersIn
 corner-at [] k h = absurd (omega arith)
@@ -45,44 +44,22 @@ corner-at (x ∷ y ∷ ns) (suc k) h = rw (twice k, twice-more k) (corner-at ns 
     twice-more : (k : ℕ) → suc (suc (2 * k)) + 1 ≡ suc (suc (2 * k + 1))
     twice-more k = omega arith
 
-module _ (ns : List ℤ) (cs : List Corner) (i : ℕ) where
-  pub gather-next : i < length ns / 2 → i < length cs → take i cs ≡ take i (cornersIn ns)
-      → take (i + 1) (set cs i (corner (getD ns (2 * i) (pos 0)) (getD ns (2 * i + 1) (pos 0)))) ≡ take (i + 1) (cornersIn ns)
-  gather-next h k f =
-      rw (
-        add-one i,
-        take-suc-set cs i (corner (getD ns (2 * i) (pos 0)) (getD ns (2 * i + 1) (pos 0))) k,
-        take-suc (cornersIn ns) i noCorner (omega (arith, corners-length ns)),
-        corner-at ns i h,
-        f,
-      ) refl
-
-  pub gather-end : i ≡ length ns / 2 → take i cs ≡ take i (cornersIn ns) → take (length ns / 2) cs ≡ cornersIn ns
-  gather-end h f =
-      ap (λ k. take k cs) (sym h) ∙ f ∙ take-all i (cornersIn ns) (omega (arith, corners-length ns))
-
 module _ (ns : List ℤ) (p : Corner) where
   pub lent-odd : (length ns % 2 ≡ 0 → ⊥) → lentOf ns p ≡ Refused CornerCount
   unfolding lentOf
   lent-odd h = rw (ne-eqb (length ns % 2) 0 h) refl
 
   module _ (e : length ns % 2 ≡ 0) where
-    lent-even : lentOf ns p ≡ answerOf (cornersIn ns) p
+    pub lent-even : lentOf ns p ≡ answerOf (cornersIn ns) p
     unfolding lentOf
     lent-even = rw (eq-eqb (length ns % 2) 0 e) refl
-
-    pub lent-many : 128 < length ns → lentOf ns p ≡ Refused CornerCount
-    lent-many h = lent-even ∙ miscounted (cornersIn ns) p (too-many (length (cornersIn ns)) (omega (arith, corners-length ns)))
-
-    pub lent-is : (o : Outline) → o .count ≤ 64 → take (o .count) (o .corners) ≡ cornersIn ns → outlineOf o p ≡ lentOf ns p
-    lent-is o h f = outline-listed o p h ∙ ap (λ cs. answerOf cs p) f ∙ sym lent-even
 
 pub lent-nowhere : (ns : List ℤ) (p : Corner) → locatedPlace (lentOf ns p) ≡ Nowhere
 lent-nowhere ns p =
     told (eqb (length ns % 2) 0) (λ e. ap locatedPlace (lent-even ns p (eqb-true (length ns % 2) 0 e)) ∙ answer-nowhere (cornersIn ns) p)
     (λ e. ap locatedPlace (lent-odd ns p (eqb-false (length ns % 2) 0 e)))
 
--- ---- the theorems
+-- ---- the numbers of a list of corners
 
 corners-back : (cs : List Corner) → cornersIn (numbersOf cs) ≡ cs
 unfolding cornersIn numbersOf
@@ -103,6 +80,68 @@ numbers-back (x ∷ y ∷ ns) e = ap (λ l. x ∷ y ∷ l) (numbers-back ns (ome
 
 pub lent-listed : (cs : List Corner) (p : Corner) → lentOf (numbersOf cs) p ≡ answerOf cs p
 lent-listed cs p = lent-even (numbersOf cs) p (numbers-even cs) ∙ ap (λ l. answerOf l p) (corners-back cs)
+
+numbers-length : (cs : List Corner) → length (numbersOf cs) ≡ 2 * length cs
+unfolding numbersOf
+numbers-length [] = refl
+numbers-length (c ∷ cs) = omega (arith, numbers-length cs)
+
+two-more : (k : ℕ) → 2 * suc k ≡ suc (suc (2 * k))
+two-more k = omega arith
+
+numbers-take : (k : ℕ) (cs : List Corner) → take (2 * k) (numbersOf cs) ≡ numbersOf (take k cs)
+unfolding numbersOf
+numbers-take zero cs = refl
+numbers-take (suc k) [] = rw (two-more k) refl
+numbers-take (suc k) (c ∷ cs) = rw (two-more k) (ap (λ l. c .x ∷ c .y ∷ l) (numbers-take k cs))
+
+number-x : (cs : List Corner) (k : ℕ) → k < length cs → getD (numbersOf cs) (2 * k) (pos 0) ≡ getD cs k noCorner .x
+unfolding numbersOf
+number-x [] k h = absurd (omega arith)
+number-x (c ∷ cs) zero h = refl
+number-x (c ∷ cs) (suc k) h = rw (two-more k) (number-x cs k (omega arith))
+
+number-y : (cs : List Corner) (k : ℕ) → k < length cs → getD (numbersOf cs) (suc (2 * k)) (pos 0) ≡ getD cs k noCorner .y
+unfolding numbersOf
+number-y [] k h = absurd (omega arith)
+number-y (c ∷ cs) zero h = refl
+number-y (c ∷ cs) (suc k) h = rw (two-more k) (number-y cs k (omega arith))
+
+module _ (cs : List Corner) (ns : List ℤ) (i : ℕ) where
+  abbrev pub putTwo : List ℤ
+  putTwo = set (set ns (2 * i) (getD cs i noCorner .x)) (2 * i + 1) (getD cs i noCorner .y)
+
+  pub put-next : i < length cs → 2 * i + 1 < length ns → take (2 * i) ns ≡ take (2 * i) (numbersOf cs)
+      → take (2 * (i + 1)) putTwo ≡ take (2 * (i + 1)) (numbersOf cs)
+  put-next h k f =
+      let g : length (numbersOf cs) ≡ 2 * length cs = numbers-length cs in
+      let l : length (set ns (2 * i) (getD cs i noCorner .x)) ≡ length ns = length-set ns (2 * i) (getD cs i noCorner .x) in
+      rw (
+        two-next,
+        add-one (2 * i),
+        take-suc-set (set ns (2 * i) (getD cs i noCorner .x)) (suc (2 * i)) (getD cs i noCorner .y) (omega arith),
+        take-suc-set ns (2 * i) (getD cs i noCorner .x) (omega arith),
+        take-suc (numbersOf cs) (suc (2 * i)) (pos 0) (omega arith),
+        take-suc (numbersOf cs) (2 * i) (pos 0) (omega arith),
+        number-x cs i h,
+        number-y cs i h,
+        f,
+      ) refl
+    where
+      two-next : 2 * (i + 1) ≡ suc (suc (2 * i))
+      two-next = omega arith
+
+  pub put-end : i ≡ length cs → length ns ≡ 2 * i → take (2 * i) ns ≡ take (2 * i) (numbersOf cs) → ns ≡ numbersOf cs
+  put-end h k f =
+      sym (take-all (2 * i) ns (omega arith)) ∙ f ∙ take-all (2 * i) (numbersOf cs) (omega (arith, numbers-length cs))
+
+pub outline-lent : (o : Outline) (p : Corner) → o .count ≤ 64
+    → lentOf (take (2 * o .count) (numbersOf (o .corners))) p ≡ outlineOf o p
+outline-lent o p h =
+    ap (λ l. lentOf l p) (numbers-take (o .count) (o .corners)) ∙ lent-listed (take (o .count) (o .corners)) p
+    ∙ sym (outline-listed o p h)
+
+-- ---- the theorems
 
 pub lent-started-elsewhere : (k : ℕ) (cs : List Corner) (p : Corner) → lentOf (numbersOf (startedAt k cs)) p ≡ lentOf (numbersOf cs) p
 lent-started-elsewhere k cs p = lent-listed (startedAt k cs) p ∙ started-elsewhere k cs p ∙ sym (lent-listed cs p)

@@ -1,41 +1,47 @@
--- The loops: coordinates out of range, and one pass over the sides. Assumes nothing.
-use Prim.Native.Nat.{ℕ, zero, suc, _+_, _≤_, _<_}
+-- The loops: coordinates out of range, and a pass over the sides. Assumes nothing.
+use Prim.Native.Nat.{ℕ, zero, suc, _+_, _*_, _/_, _%_, _≤_, _<_}
 use mathlib.Core.Path.{_≡_, refl, sym, ap, _∙_}
 use mathlib.Core.Bool.{Bool, false, _||_, or-false, or-assoc}
 use mathlib.Core.List.{List, [], _∷_}
 use native.Mathlib.Omega.{arith}
-use lib.IntN.{pos}
-use lib.ListN.{length, take, drop, getD}
-use lib.Seq.{getD-take, length-take-le}
+use native.Mathlib.Numerals.{add-one}
+use lib.IntN.{ℤ, pos}
+use lib.ListN.{length, drop, getD, drop-of-length-le}
+use lib.Seq.{drop-cons}
 use Rattle.de9im.proofs.LawsBool.{neither}
 use Rattle.outline.specs.declared.corners.Corner.{Corner}
 use Rattle.outline.specs.declared.side.Seen.{Seen}
-use Rattle.outline.specs.Corners.{corner, farCorner, someFar}
+use Rattle.outline.specs.Corners.{corner, noCorner, farZ, farCorner, someFar}
 use Rattle.outline.specs.Sides.{Side, joined, through, sides, someOf, oddOf, exactlyOne, equalEnds}
 use Rattle.outline.specs.Position.{onSide, crossed}
-use Rattle.outline.specs.Inner.Walk.{past, seenOf}
+use Rattle.outline.specs.Lent.{cornersIn}
+use Rattle.outline.specs.Inner.Walk.{past, seenOf, farAmong}
 use Rattle.outline.proofs.LawsBool.{one-false, false-one, one-assoc}
-use Rattle.outline.proofs.LawsLists.{rest, none-left}
 
--- what stands past the end of a list
-abbrev pub noCorner : Corner
-noCorner = corner (pos 0) (pos 0)
+-- a list from its i-th on
+module _ {X : Type 0} (z : X) (l : List X) (i : ℕ) where
+  on-at : i < length l → drop i l ≡ getD l i z ∷ drop (i + 1) l
+  on-at h = rw (add-one i) (drop-cons l i z h)
 
 -- ---- out of range
 
-abbrev pub farFrom : List Corner → ℕ → ℕ → Bool
-farFrom cs n i = someFar (drop i (take n cs))
+module _ (ns : List ℤ) (i : ℕ) (b : Bool) where
+  pub far-next : i < length ns → ((b || farZ (getD ns i (pos 0))) || farAmong (drop (i + 1) ns)) ≡ (b || farAmong (drop i ns))
+  unfolding farAmong
+  far-next h =
+      or-assoc b (farZ (getD ns i (pos 0))) (farAmong (drop (i + 1) ns)) ∙ sym (ap (λ l. b || farAmong l) (on-at (pos 0) ns i h))
 
-module _ (cs : List Corner) (n i : ℕ) where
-  pub far-next : (b : Bool) → i < n → n ≤ length cs
-      → ((b || farCorner (getD cs i noCorner)) || farFrom cs n (i + 1)) ≡ (b || farFrom cs n i)
-  unfolding someFar
-  far-next b h k =
-      or-assoc b (farCorner (getD cs i noCorner)) (farFrom cs n (i + 1)) ∙ sym (ap (λ l. b || someFar l) (rest noCorner cs i n h k))
+  pub far-end : length ns ≤ i → (b || farAmong (drop i ns)) ≡ b
+  unfolding farAmong
+  far-end h = ap (λ l. b || farAmong l) (drop-of-length-le ns h) ∙ or-false b
 
-  pub far-end : (b : Bool) → n ≤ i → n ≤ length cs → (b || farFrom cs n i) ≡ b
-  unfolding someFar
-  far-end b h k = ap (λ l. b || someFar l) (none-left noCorner cs i n h k) ∙ or-false b
+-- among the numbers, or among the corners
+pub far-corners : (ns : List ℤ) → length ns % 2 ≡ 0 → farAmong ns ≡ someFar (cornersIn ns)
+unfolding farAmong someFar cornersIn
+far-corners [] e = refl
+far-corners (x ∷ []) e = absurd (omega arith)
+far-corners (x ∷ y ∷ ns) e =
+    sym (or-assoc (farZ x) (farZ y) (farAmong ns)) ∙ ap (λ t. farCorner (corner x y) || t) (far-corners ns (omega arith))
 
 pub near-at : (cs : List Corner) → someFar cs ≡ false → (k : ℕ) → k < length cs → farCorner (getD cs k noCorner) ≡ false
 unfolding someFar
@@ -43,52 +49,51 @@ near-at [] e k h = absurd (omega arith)
 near-at (c ∷ cs) e zero h = neither (farCorner c) (someFar cs) e .0
 near-at (c ∷ cs) e (suc k) h = near-at cs (neither (farCorner c) (someFar cs) e .1) k (omega arith)
 
-pub near-first : (cs : List Corner) (n k : ℕ) → k < n → n ≤ length cs → someFar (take n cs) ≡ false
-    → farCorner (getD cs k noCorner) ≡ false
-near-first cs n k h l e =
-    rw (getD-take n cs k noCorner h) at (near-at (take n cs) e k (omega (arith, length-take-le n cs l)))
+-- ---- a pass over the sides, with any step
 
--- ---- one pass
-
-abbrev pub start : Seen
-start = record { same = false; on = false; odd = false }
-
-unfoldable pub walk : Corner → Seen → List Side → Seen
-walk p s [] = s
-walk p s (e ∷ es) = walk p (past p s e) es
-
-walked : (p : Corner) (s : Seen) (es : List Side) → walk p s es ≡ record {
-  same = s .same || someOf equalEnds es;
-  on = s .on || someOf (onSide p) es;
-  odd = exactlyOne (s .odd) (oddOf (crossed p) es);
-}
-unfolding walk past someOf oddOf
-walked p s [] = rw (or-false (s .same), or-false (s .on), one-false (s .odd)) refl
-walked p s (e ∷ es) =
-    walked p (past p s e) es ∙ rw (
-      or-assoc (s .same) (equalEnds e) (someOf equalEnds es),
-      or-assoc (s .on) (onSide p e) (someOf (onSide p) es),
-      one-assoc (s .odd) (crossed p e) (oddOf (crossed p) es),
-    ) refl
-
-pub walk-all : (p : Corner) (es : List Side) → walk p start es ≡ seenOf p es
-unfolding seenOf
-walk-all p es = walked p start es ∙ rw (false-one (oddOf (crossed p) es)) refl
+unfoldable pub walk : {S : Type 0} → (S → Side → S) → S → List Side → S
+walk f s [] = s
+walk f s (e ∷ es) = walk f (f s e) es
 
 -- what is left of the sides, at a corner, with those from the i-th on to come
-abbrev pub left : List Corner → ℕ → ℕ → Corner → List Side
-left cs n i a = through a (drop i (take n cs)) (getD cs 0 noCorner)
+abbrev pub left : List Corner → ℕ → Corner → List Side
+left cs i a = through a (drop i cs) (getD cs 0 noCorner)
 
-module _ (cs : List Corner) (n i : ℕ) (p : Corner) (s : Seen) (a : Corner) where
-  pub walk-next : i < n → n ≤ length cs
-      → walk p s (left cs n i a) ≡ walk p (past p s (joined a (getD cs i noCorner))) (left cs n (i + 1) (getD cs i noCorner))
+module _ {S : Type 0} (f : S → Side → S) (cs : List Corner) (i : ℕ) (s : S) (a : Corner) where
+  pub walk-next : i < length cs
+      → walk f s (left cs i a) ≡ walk f (f s (joined a (getD cs i noCorner))) (left cs (i + 1) (getD cs i noCorner))
   unfolding walk through
-  walk-next h k = ap (λ l. walk p s (through a l (getD cs 0 noCorner))) (rest noCorner cs i n h k)
+  walk-next h = ap (λ l. walk f s (through a l (getD cs 0 noCorner))) (on-at noCorner cs i h)
 
-  pub walk-end : n ≤ i → n ≤ length cs → walk p s (left cs n i a) ≡ past p s (joined a (getD cs 0 noCorner))
+  pub walk-end : length cs ≤ i → walk f s (left cs i a) ≡ f s (joined a (getD cs 0 noCorner))
   unfolding walk through
-  walk-end h k = ap (λ l. walk p s (through a l (getD cs 0 noCorner))) (none-left noCorner cs i n h k)
+  walk-end h = ap (λ l. walk f s (through a l (getD cs 0 noCorner))) (drop-of-length-le cs h)
 
-pub walk-start : (cs : List Corner) (n : ℕ) → 0 < n → n ≤ length cs → sides (take n cs) ≡ left cs n 1 (getD cs 0 noCorner)
+pub walk-start : (cs : List Corner) → 0 < length cs → sides cs ≡ left cs 1 (getD cs 0 noCorner)
 unfolding sides
-walk-start cs n h k = ap sides (rest noCorner cs 0 n h k)
+walk-start cs h = ap sides (on-at noCorner cs 0 h)
+
+-- two equal neighbours
+abbrev pub orEqual : Bool → Side → Bool
+orEqual b e = b || equalEnds e
+
+pub equal-walked : (b : Bool) (es : List Side) → walk orEqual b es ≡ (b || someOf equalEnds es)
+unfolding walk someOf
+equal-walked b [] = sym (or-false b)
+equal-walked b (e ∷ es) = equal-walked (orEqual b e) es ∙ or-assoc b (equalEnds e) (someOf equalEnds es)
+
+-- both tests of the point
+abbrev pub start : Seen
+start = record { on = false; odd = false }
+
+walked : (p : Corner) (s : Seen) (es : List Side)
+    → walk (past p) s es ≡ record { on = s .on || someOf (onSide p) es; odd = exactlyOne (s .odd) (oddOf (crossed p) es) }
+unfolding walk past someOf oddOf
+walked p s [] = rw (or-false (s .on), one-false (s .odd)) refl
+walked p s (e ∷ es) =
+    walked p (past p s e) es
+    ∙ rw (or-assoc (s .on) (onSide p e) (someOf (onSide p) es), one-assoc (s .odd) (crossed p e) (oddOf (crossed p) es)) refl
+
+pub walk-all : (p : Corner) (es : List Side) → walk (past p) start es ≡ seenOf p es
+unfolding seenOf
+walk-all p es = walked p start es ∙ rw (false-one (oddOf (crossed p) es)) refl

@@ -1,7 +1,7 @@
 -- Facts about the definitions of specs/, each stated once.
 pub mod LawsBool
 pub mod LawsSigned
-pub mod LawsLists
+pub mod LawsSide
 pub mod LawsWalk
 pub mod LawsAnswer
 pub mod LawsTurn

@@ -10,6 +10,10 @@ use Rattle.outline.specs.declared.corners.Corner.{Corner}
 abbrev pub corner : ℤ → ℤ → Corner
 corner x y = record { x = x; y = y }
 
+-- what stands past the end of a list
+abbrev pub noCorner : Corner
+noCorner = corner (pos 0) (pos 0)
+
 -- beyond ±1,000,000,000
 abbrev pub farZ : ℤ → Bool
 farZ z = ltZ (pos 1000000000) z || ltZ z (negsuc 999999999)

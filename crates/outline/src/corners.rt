@@ -1,6 +1,9 @@
 // Corners and outlines, and the tests on corners that a refusal asks.
+ghost use Prim.Native.Nat.{_+_, _*_, _<_};
 ghost use mathlib.Core.Path.{_≡_};
-ghost use Rattle.outline.specs.Corners.{farZ, farCorner, sameCorner};
+ghost use lib.ListN.{length, getD};
+ghost use Rattle.outline.specs.Corners.{farZ, farCorner, sameCorner, noCorner};
+ghost use Rattle.outline.specs.Lent.{cornersIn};
 
 pub struct Corner {
     pub x: i32,
@@ -13,7 +16,7 @@ pub struct Outline {
     pub count: usize,
 }
 
-fn far(z: i32) -> bool
+pub(crate) fn far(z: i32) -> bool
     ensures { λ r. ⌜ r ≡ farZ z ⌝ }
 {
     (1000000000 < z) | (z < -1000000000)
@@ -29,4 +32,15 @@ pub(crate) fn same_corner(a: Corner, b: Corner) -> bool
     ensures { λ r. ⌜ r ≡ sameCorner a b ⌝ }
 {
     (a.x == b.x) & (a.y == b.y)
+}
+
+// The corner with a number, of a slice of numbers.
+pub(crate) fn corner_at(xy: &[i32], i: usize) -> Corner
+    requires { ⌜ 2 * i + 1 < length (now xy) ⌝ }
+    ensures { λ r. ⌜ r ≡ getD (cornersIn (now (xy .entry))) i noCorner ⌝ }
+{
+    Corner {
+        x: xy[2 * i],
+        y: xy[2 * i + 1],
+    }
 }

@@ -1,29 +1,98 @@
-// An outline lent as one slice of numbers, x and y of each corner in turn.
+// An outline lent as one slice of numbers, x and y of each corner in turn: the refusals in their order, then the position.
 use crate::corners::Corner;
-use crate::corners::Outline;
+use crate::corners::corner_at;
+use crate::corners::far;
+use crate::corners::far_corner;
+use crate::corners::same_corner;
 use crate::position::Located;
-use crate::position::position;
+use crate::side::Seen;
+use crate::side::level;
+use crate::side::pass;
+use crate::side::pass_level;
+use de9im::coordinate_position::CoordPos;
 use de9im::refusal::Refusal;
-ghost use Prim.Native.Nat.{_≤_, _/_};
+ghost use Prim.Native.Nat.{_<_, _≤_, _/_};
+ghost use mathlib.Core.Bool.{false};
 ghost use mathlib.Core.Path.{_≡_};
-ghost use lib.ListN.{length, take};
+ghost use lib.ListN.{length};
+ghost use Rattle.outline.specs.Corners.{farCorner, someFar};
+ghost use Rattle.outline.specs.Sides.{sides, someOf, equalEnds};
+ghost use Rattle.outline.specs.Position.{placeOf};
+ghost use Rattle.outline.specs.Answer.{wrongCount};
 ghost use Rattle.outline.specs.Lent.{cornersIn, lentOf};
+ghost use Rattle.outline.specs.Inner.Walk.{farAmong, seenOf};
 
-// The corners of a slice, at most 64, as an outline.
-fn gathered(xy: &[i32]) -> Outline
-    requires { ⌜ length (now xy) ≤ 128 ⌝ }
-    ensures { λ r. ⌜ (r .count ≡ length (now (xy .entry)) / 2) × (take (r .count) (r .corners) ≡ cornersIn (now (xy .entry))) ⌝ }
+fn wrong_count(n: usize) -> bool
+    ensures { λ r. ⌜ r ≡ wrongCount n ⌝ }
 {
-    let mut corners = [Corner { x: 0, y: 0 }; 64];
-    let count = xy.len() / 2;
+    (n < 3) | (64 < n)
+}
+
+fn some_far(xy: &[i32]) -> bool
+    ensures { λ r. ⌜ r ≡ farAmong (now (xy .entry)) ⌝ }
+{
     let mut i: usize = 0;
-    while i < count {
-        let x = xy[2 * i];
-        let y = xy[2 * i + 1];
-        corners[i] = Corner { x, y };
+    let mut found = false;
+    while i < xy.len() {
+        found = found | far(xy[i]);
         i += 1;
     }
-    Outline { corners, count }
+    found
+}
+
+// Whether two neighbours are equal, the last and the first too.
+fn some_equal(xy: &[i32]) -> bool
+    requires { ⌜ 0 < length (now xy) / 2 ⌝ }
+    ensures { λ r. ⌜ r ≡ someOf equalEnds (sides (cornersIn (now (xy .entry)))) ⌝ }
+{
+    let count = xy.len() / 2;
+    let first = corner_at(xy, 0);
+    let mut found = false;
+    let mut a = first;
+    let mut i: usize = 1;
+    while i < count {
+        let b = corner_at(xy, i);
+        found = found | same_corner(a, b);
+        a = b;
+        i += 1;
+    }
+    found | same_corner(a, first)
+}
+
+// One pass over the sides, each with both tests. Most lie above the point or below it, and show nothing.
+fn look(xy: &[i32], p: Corner) -> Seen
+    requires { ⌜ (0 < length (now xy) / 2) × (someFar (cornersIn (now xy)) ≡ false) × (farCorner p ≡ false) ⌝ }
+    ensures { λ r. ⌜ r ≡ seenOf p (sides (cornersIn (now (xy .entry)))) ⌝ }
+{
+    let count = xy.len() / 2;
+    let first = corner_at(xy, 0);
+    let mut s = Seen {
+        on: false,
+        odd: false,
+    };
+    let mut a = first;
+    let mut i: usize = 1;
+    while i < count {
+        let b = corner_at(xy, i);
+        if level(p, a, b) {
+            s = pass_level(s, a, b, p);
+        }
+        a = b;
+        i += 1;
+    }
+    pass(s, a, first, p)
+}
+
+fn place(on: bool, odd: bool) -> CoordPos
+    ensures { λ r. ⌜ r ≡ placeOf on odd ⌝ }
+{
+    if on {
+        return CoordPos::OnBoundary;
+    }
+    if odd {
+        return CoordPos::Inside;
+    }
+    CoordPos::Outside
 }
 
 pub fn position_lent(xy: &[i32], p: Corner) -> Located
@@ -32,8 +101,18 @@ pub fn position_lent(xy: &[i32], p: Corner) -> Located
     if xy.len() % 2 != 0 {
         return Located::Refused(Refusal::CornerCount);
     }
-    if 128 < xy.len() {
+    if wrong_count(xy.len() / 2) {
         return Located::Refused(Refusal::CornerCount);
     }
-    position(gathered(xy), p)
+    if some_far(xy) {
+        return Located::Refused(Refusal::OutOfRange);
+    }
+    if far_corner(p) {
+        return Located::Refused(Refusal::OutOfRange);
+    }
+    if some_equal(xy) {
+        return Located::Refused(Refusal::EqualCorners);
+    }
+    let s = look(xy, p);
+    Located::Is(place(s.on, s.odd))
 }

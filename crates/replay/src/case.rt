@@ -2,6 +2,7 @@
 // (4 each), a dimension, the count of bytes given (2), the bytes given, and what the call must leave in what it may write. Numbers
 // have their high byte first. Zeros at the end of a case may be left off.
 use crate::matrix_calls;
+use crate::outline_calls;
 use crate::plan_calls;
 ghost use mathlib.Core.Path.{_≡_};
 ghost use Prim.Native.Nat.{_+_, _≤_, _<_};
@@ -33,7 +34,7 @@ fn byte(high: u8, low: u8) -> u8 {
     16 * nibble(high) + nibble(low)
 }
 
-fn least(a: usize, b: usize) -> usize
+pub(crate) fn least(a: usize, b: usize) -> usize
     ensures { λ r. ⌜ (r ≤ a) × (r ≤ b) ⌝ }
 {
     if a < b { a } else { b }
@@ -56,7 +57,7 @@ fn wide(x: u8) -> u32
 }
 
 // A number of four bytes, the high one first.
-fn four(a: u8, b: u8, c: u8, d: u8) -> u32 {
+pub(crate) fn four(a: u8, b: u8, c: u8, d: u8) -> u32 {
     16777216 * wide(a) + 65536 * wide(b) + 256 * wide(c) + wide(d)
 }
 
@@ -110,6 +111,7 @@ fn asked(letter: u8, h: Head, given: &[u8], due: &[u8]) -> bool {
         b'K' => plan_calls::star(h, given, due),
         b'N' => plan_calls::record(h, given, due),
         b'D' => plan_calls::read_report(h, given, due),
+        b'I' => outline_calls::point_in_outline(h, given),
         _ => false,
     }
 }

@@ -3,6 +3,7 @@
 // with '#' say how it was made, how to make it again, and which case has its answer from where.
 mod case;
 mod matrix_calls;
+mod outline_calls;
 mod plan_calls;
 
 use libc::STDIN_FILENO;

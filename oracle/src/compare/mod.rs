@@ -2,6 +2,7 @@
 
 mod changes;
 mod matches;
+mod outlines;
 mod plan_tally;
 mod predicates;
 mod records;
@@ -109,6 +110,7 @@ pub fn main() -> i32 {
     // Last, so that every run above draws what it drew without it.
     matches::compare_bad_letters(&mut run);
     reports::compare_both_forms(&mut run);
+    outlines::compare(&mut run);
     run.answer_waiting();
     run.tally.report()
 }

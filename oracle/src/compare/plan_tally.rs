@@ -1,4 +1,4 @@
-//! Judges one call on ends, a record or a report, and counts it.
+//! Judges one call on ends, a record, a report or an outline, and counts it.
 
 use super::tally::Tally;
 use crate::asked_star::{self, PlanSaid};
@@ -12,10 +12,12 @@ use std::collections::BTreeMap;
 pub struct Numbers {
     /// How often each function had to give each number.
     refused: BTreeMap<(PlanOp, u32), u64>,
+    /// How often a point had to be inside an outline, on it and outside.
+    positions: [u64; 3],
 }
 
 impl Numbers {
-    /// Prints them, and answers how many numbers were never met.
+    /// Prints them, and answers how many of them were never met.
     pub fn report(&self) -> u64 {
         let mut unmet = 0;
         for (op, numbers) in REACHABLE {
@@ -27,8 +29,11 @@ impl Numbers {
             println!("{}, refusals by number: {}", op.name(), counts.join(", "));
             unmet += numbers.iter().filter(|number| times(number) == 0).count() as u64;
         }
+        let [inside, on, outside] = self.positions;
+        println!("points in outlines: {inside} inside, {on} on the boundary, {outside} outside");
+        unmet += self.positions.iter().filter(|count| **count == 0).count() as u64;
         if unmet != 0 {
-            println!("{unmet} numbers above were never met: the calls made are too few");
+            println!("{unmet} of the answers above were never met: the calls made are too few");
         }
         unmet
     }
@@ -51,6 +56,8 @@ impl Tally {
         let number = rule::number(due.word);
         if let Some(number) = number {
             *self.numbers.refused.entry((call.op, number)).or_default() += 1;
+        } else if call.op == PlanOp::PointInOutline {
+            self.numbers.positions[due.word as usize - 1] += 1;
         }
         // A refusal of the reader that stands before the crate says nothing of the crate.
         let asked = said.is_some() && number.is_none_or(|number| number == 9);
@@ -106,6 +113,10 @@ fn describe(call: &PlanCall) -> String {
             format!(" of cells {} at {}", hex(&call.out), call.offset)
         }
         PlanOp::ConvertReport => format!(" into {} at {}", hex(&call.out), call.offset),
+        PlanOp::PointInOutline => {
+            let (point, numbers) = (call.point(), call.numbers());
+            return format!("{} of {point:?} in {numbers:?}", call.op.name());
+        }
     };
     format!("{}{given}, bytes {}", call.op.name(), hex(&call.bytes))
 }

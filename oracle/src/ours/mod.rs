@@ -172,7 +172,7 @@ impl Library {
             .collect()
     }
 
-    /// Answers the calls on ends, records and reports in order.
+    /// Answers the calls on ends, records, reports and outlines in order.
     pub fn answer_plans(&mut self, calls: &[PlanCall]) -> Vec<PlanReply> {
         #[cfg(far)]
         let replies = self.side.answer_plans(calls);

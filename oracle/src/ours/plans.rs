@@ -1,8 +1,10 @@
-//! Calls on ends, plan records and stored reports: their bytes are of any count, so they are written down apart.
+//! Calls on ends, plan records, stored reports and outlines: their bytes are of any count, so they are written down
+//! apart.
 //!
 //! What a call is lent stands in one stretch, with guards before, between and after: the bytes that it may write an
-//! answer into (`out`), then the ends, the record, the report or the buffer (`bytes`). Converting has the buffer in `out`,
-//! since it reads a report too. The stretch is the same whether the library is linked or in a program of its own.
+//! answer into (`out`), then the ends, the record, the report, the buffer or the outline's numbers (`bytes`). Converting
+//! has the buffer in `out`, since it reads a report too. The stretch is the same whether the library is linked or in a
+//! program of its own. Numbers in it have their low byte first, as x86-64 has them.
 
 #[cfg(all(linked, not(far)))]
 use super::linked;
@@ -25,6 +27,7 @@ pub enum PlanOp {
     WriteReport = 4,
     WriteShortReport = 5,
     ConvertReport = 6,
+    PointInOutline = 7,
 }
 
 impl PlanOp {
@@ -38,6 +41,7 @@ impl PlanOp {
             PlanOp::WriteReport => "misonkandi_write_report",
             PlanOp::WriteShortReport => "misonkandi_write_short_report",
             PlanOp::ConvertReport => "misonkandi_convert_report",
+            PlanOp::PointInOutline => "misonkandi_point_in_outline",
         }
     }
 }
@@ -50,7 +54,7 @@ pub struct PlanCall {
     /// call.
     pub out: Vec<u8>,
     pub bytes: Vec<u8>,
-    /// The area codes.
+    /// The area codes, or the bits of the point's x and y.
     pub a: u32,
     pub b: u32,
     pub offset: u64,
@@ -109,6 +113,28 @@ impl PlanCall {
         }
     }
 
+    /// The numbers need be no whole corners.
+    pub fn point_in_outline(numbers: &[i32], (x, y): (i32, i32)) -> Self {
+        let bytes = numbers.iter().flat_map(|number| number.to_le_bytes());
+        PlanCall {
+            op: PlanOp::PointInOutline,
+            out: Vec::new(),
+            a: x as u32,
+            b: y as u32,
+            ..PlanCall::bundle(bytes.collect())
+        }
+    }
+
+    /// The numbers of an outline.
+    pub fn numbers(&self) -> Vec<i32> {
+        numbers(&self.bytes)
+    }
+
+    /// The point beside an outline.
+    pub fn point(&self) -> (i32, i32) {
+        (self.a as i32, self.b as i32)
+    }
+
     /// The nine cells of a call that has them.
     pub fn cells(&self) -> [u8; 9] {
         self.out.as_slice().try_into().expect("nine cells")
@@ -128,6 +154,11 @@ impl PlanCall {
         let start = 2 * GUARD + self.out.len();
         start..start + self.bytes.len()
     }
+}
+
+fn numbers(bytes: &[u8]) -> Vec<i32> {
+    let number = |four: &[u8]| i32::from_le_bytes(four.try_into().expect("four bytes"));
+    bytes.chunks_exact(4).map(number).collect()
 }
 
 /// The answer, what was lent as the call left it, and whether a guard changed.
@@ -159,6 +190,10 @@ pub(super) fn reply(call: &PlanCall, word: u32, lent: &[u8]) -> PlanReply {
 #[cfg(all(linked, not(far)))]
 pub(super) fn answer(call: &PlanCall) -> PlanReply {
     let mut lent = call.lent();
+    if call.op == PlanOp::PointInOutline {
+        let word = point_in_outline(call, &mut lent);
+        return reply(call, word, &lent);
+    }
     let (front, back) = lent.split_at_mut(call.bytes_at().start);
     let out = &mut front[call.out_at()];
     let bytes = &mut back[..call.bytes.len()];
@@ -175,6 +210,20 @@ pub(super) fn answer(call: &PlanCall) -> PlanReply {
             linked::write_short_report((&*out).try_into().expect("nine"), bytes, offset)
         }
         PlanOp::ConvertReport => linked::convert_report(bytes, out, offset),
+        PlanOp::PointInOutline => unreachable!("made above"),
     };
     reply(call, word, &lent)
+}
+
+/// Numbers must lie at a multiple of four. The whole stretch is copied to where they do, guards too, and back.
+#[cfg(all(linked, not(far)))]
+fn point_in_outline(call: &PlanCall, lent: &mut [u8]) -> u32 {
+    let stretch = numbers(lent);
+    let at = call.bytes_at();
+    let (x, y) = call.point();
+    let word = linked::point_in_outline(&stretch[at.start / 4..at.end / 4], x, y);
+    for (four, number) in lent.chunks_exact_mut(4).zip(stretch) {
+        four.copy_from_slice(&number.to_le_bytes());
+    }
+    word
 }
