@@ -14,17 +14,17 @@ pub const MOST_CORNERS: usize = 64;
 /// other.
 ///
 /// What it is made from is refused by the library itself: a new outline is asked once for the point (0, 0). So
-/// [`coordinate_position`](Self::coordinate_position) can be refused for its point and for nothing else.
+/// [`position`](Self::position) can be refused for its point and for nothing else.
 ///
 /// ```
 /// use misonkandi::{CoordPos, Outline, Refusal};
 ///
 /// // A room with a notch in its upper wall.
 /// let room = Outline::new(&[(0, 0), (10, 0), (10, 6), (7, 6), (5, 3), (3, 6), (0, 6)])?;
-/// assert_eq!(room.coordinate_position((2, 3)), Ok(CoordPos::Inside)); // level with the corner (5, 3)
-/// assert_eq!(room.coordinate_position((5, 5)), Ok(CoordPos::Outside)); // in the notch
-/// assert_eq!(room.coordinate_position((8, 6)), Ok(CoordPos::OnBoundary));
-/// assert_eq!(room.coordinate_position((2_000_000_000, 0)), Err(Refusal::OutOfRange));
+/// assert_eq!(room.position((2, 3)), Ok(CoordPos::Inside)); // level with the corner (5, 3)
+/// assert_eq!(room.position((5, 5)), Ok(CoordPos::Outside)); // in the notch
+/// assert_eq!(room.position((8, 6)), Ok(CoordPos::OnBoundary));
+/// assert_eq!(room.position((2_000_000_000, 0)), Err(Refusal::OutOfRange));
 ///
 /// assert_eq!(Outline::new(&[(0, 0), (10, 0)]), Err(Refusal::CornerCount));
 /// assert_eq!(Outline::new(&[(0, 0), (10, 0), (10, 6), (0, 0)]), Err(Refusal::EqualCorners));
@@ -55,10 +55,10 @@ impl Outline {
         for (place, &(x, y)) in outline.corners.iter_mut().zip(corners) {
             *place = [x, y];
         }
-        outline.coordinate_position((0, 0)).map(|_| outline)
+        outline.position((0, 0)).map(|_| outline)
     }
 
-    /// Where a point (x, y) lies. geo's name, for what geo asks of a polygon.
+    /// Where a point (x, y) lies; geo's `coordinate_position` asks this of a polygon.
     ///
     /// On a side or at a corner it is `OnBoundary`; else `Inside` if the half line from it towards positive x crosses
     /// an odd number of sides, a side counting when exactly one of its ends lies strictly above the point's y; else
@@ -67,7 +67,7 @@ impl Outline {
     /// Refused: 17 for a coordinate of the point beyond ±1,000,000,000. Promised: `lentOf`,
     /// crates/outline/specs/Lent.antt; starting the corners elsewhere or reversing them doesn't alter the answer
     /// (`lent-started-elsewhere`, `lent-reversed`, crates/outline/proofs/LawsLent.antt).
-    pub fn coordinate_position(&self, (x, y): (i32, i32)) -> Result<CoordPos, Refusal> {
+    pub fn position(&self, (x, y): (i32, i32)) -> Result<CoordPos, Refusal> {
         point_in_outline(self.numbers(), x, y)
     }
 
@@ -89,7 +89,7 @@ impl fmt::Debug for Outline {
     }
 }
 
-/// [`Outline::coordinate_position`] for a caller that has numbers, x and y of each corner in turn.
+/// [`Outline::position`] for a caller that has numbers, x and y of each corner in turn.
 ///
 /// Refused: 16, for an odd count of numbers too; 17, of the corners and of the point; 18. Promised: `lentOf`,
 /// crates/outline/specs/Lent.antt.

@@ -21,7 +21,7 @@ fn corners_of(numbers: &[i32]) -> Corners {
 /// The answer to an outline and to its numbers, which is one.
 fn position(corners: &[(i32, i32)], x: i32, y: i32) -> CoordPos {
     let outline = Outline::new(corners).expect("a good outline");
-    let answer = outline.coordinate_position((x, y));
+    let answer = outline.position((x, y));
     assert_eq!(point_in_outline(&numbers(corners), x, y), answer);
     answer.expect("a good point")
 }
@@ -212,7 +212,7 @@ fn a_coordinate_out_of_range() {
             assert_eq!(refused(&corners_of(&numbers)), Refusal::OutOfRange);
         }
         for point in [(far, 0), (0, far), (far, far)] {
-            let answer = square.coordinate_position(point);
+            let answer = square.position(point);
             assert_eq!(answer, Err(Refusal::OutOfRange));
         }
         // It comes before equal corners: a corner's, and the point's.

@@ -332,7 +332,7 @@ fn outline_case(case: &Case) {
     };
     let corners = pairs.iter().map(|&[x, y]| (x, y)).collect::<Vec<_>>();
     match Outline::new(&corners) {
-        Ok(outline) => assert_eq!(outline.coordinate_position((x, y)), answer),
+        Ok(outline) => assert_eq!(outline.position((x, y)), answer),
         Err(refusal) => assert_eq!(point_in_outline(&xy, 0, 0), Err(refusal)),
     }
 }
