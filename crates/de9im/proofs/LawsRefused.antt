@@ -27,6 +27,8 @@ numbered R.TopBits = (omega arith, omega arith)
 numbered R.CornerCount = (omega arith, omega arith)
 numbered R.OutOfRange = (omega arith, omega arith)
 numbered R.EqualCorners = (omega arith, omega arith)
+numbered (R.BadText k) = (omega arith, omega arith)
+numbered R.RingOpen = (omega arith, omega arith)
 
 pub some-number : (r : Refusal) → eqb (numberOf r) 0 ≡ false
 some-number r = ne-eqb (numberOf r) 0 (λ e. absurd (omega (arith, numbered r .0, e)))

@@ -1,5 +1,5 @@
--- Document 01, "Numbers the caller sees", request R-3's 14, request R-8's 16 to 18, and "If an answer is an enum, a definition sets out
--- this paper's number and values for each of the enum's cases."
+-- Document 01, "Numbers the caller sees", request R-3's 14, request R-8's 16 to 18, request R-9's 19 and 22, and "If an answer is an
+-- enum, a definition sets out this paper's number and values for each of the enum's cases."
 use Prim.Native.Nat.{ℕ}
 use Rattle.de9im.specs.declared.refusal.Refusal.{Refusal}
 use Rattle.de9im.specs.declared.refusal.Refusal.the-variants as R
@@ -24,8 +24,10 @@ numberOf R.TopBits = 14
 numberOf R.CornerCount = 16
 numberOf R.OutOfRange = 17
 numberOf R.EqualCorners = 18
+numberOf (R.BadText k) = 19
+numberOf R.RingOpen = 22
 
--- only 11 has a place
+-- only 11 and 19 have a place
 abbrev pub placeOf : Refusal → Spot
 placeOf R.Short = Nowhere
 placeOf R.Version = Nowhere
@@ -44,6 +46,8 @@ placeOf R.TopBits = Nowhere
 placeOf R.CornerCount = Nowhere
 placeOf R.OutOfRange = Nowhere
 placeOf R.EqualCorners = Nowhere
+placeOf (R.BadText k) = At k
+placeOf R.RingOpen = Nowhere
 
 -- a place as a number, 0 where there is none
 abbrev pub spotNo : Spot → ℕ

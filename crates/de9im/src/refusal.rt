@@ -1,4 +1,4 @@
-// Every refusal of the house, one enum for all crates, with document 01's number and, for a bad byte, its place.
+// Every refusal of the house, one enum for all crates, with document 01's number and, for a bad byte or text, its place.
 ghost use mathlib.Core.Path.{_≡_};
 ghost use Rattle.de9im.specs.Refused.{numberOf, placeOf};
 
@@ -37,6 +37,10 @@ pub enum Refusal {
     OutOfRange,
     // Two equal neighbouring corners, last and first included.
     EqualCorners,
+    // A place of a text from which no text of the grammar goes on, its end included.
+    BadText(usize),
+    // A ring that doesn't repeat its first corner at its end.
+    RingOpen,
 }
 
 // A place where there is one.
@@ -66,6 +70,8 @@ pub fn number(r: Refusal) -> u32
         Refusal::CornerCount => 16,
         Refusal::OutOfRange => 17,
         Refusal::EqualCorners => 18,
+        Refusal::BadText(_) => 19,
+        Refusal::RingOpen => 22,
     }
 }
 
@@ -74,6 +80,7 @@ pub fn place(r: Refusal) -> Spot
 {
     match r {
         Refusal::BadByte(k) => Spot::At(k),
+        Refusal::BadText(k) => Spot::At(k),
         Refusal::Short => Spot::Nowhere,
         Refusal::Version => Spot::Nowhere,
         Refusal::Kind => Spot::Nowhere,
@@ -90,5 +97,6 @@ pub fn place(r: Refusal) -> Spot
         Refusal::CornerCount => Spot::Nowhere,
         Refusal::OutOfRange => Spot::Nowhere,
         Refusal::EqualCorners => Spot::Nowhere,
+        Refusal::RingOpen => Spot::Nowhere,
     }
 }

@@ -34,11 +34,13 @@ use Rattle.misonkandi.specs.Verdicts.{verdictNo, judgedWord}
 use Rattle.misonkandi.specs.Words.{refusalWord, noSuchRow, matchedWord, wordOr, checkedWord}
 use Rattle.de9im.proofs.LawsRefused.{numbered}
 
--- the refusal with a number and a place: row n has number n; no refusal has the numbers 0 and 15, so no one asks for their rows
+-- the refusal with a number and a place: row n has number n; no refusal has the numbers 0, 15, 20 and 21, so no one asks for
+-- their rows
 abbrev refusals : ℕ → List Refusal
 refusals k =
     R.Short ∷ R.Short ∷ R.Version ∷ R.Kind ∷ R.Length ∷ R.Ends ∷ R.PositionCode ∷ R.LabelKind ∷ R.Direction ∷ R.MissingLeft ∷
-    R.NotNineBytes ∷ R.BadByte k ∷ R.NoRoom ∷ R.NotAPlace ∷ R.TopBits ∷ R.Short ∷ R.CornerCount ∷ R.OutOfRange ∷ R.EqualCorners ∷ []
+    R.NotNineBytes ∷ R.BadByte k ∷ R.NoRoom ∷ R.NotAPlace ∷ R.TopBits ∷ R.Short ∷ R.CornerCount ∷ R.OutOfRange ∷ R.EqualCorners ∷
+    R.BadText k ∷ R.Short ∷ R.Short ∷ R.RingOpen ∷ []
 
 abbrev refusalAt : ℕ → ℕ → Refusal
 refusalAt n k = getD (refusals k) n R.Short
@@ -62,6 +64,8 @@ refusal-known R.TopBits = refl
 refusal-known R.CornerCount = refl
 refusal-known R.OutOfRange = refl
 refusal-known R.EqualCorners = refl
+refusal-known (R.BadText k) = refl
+refusal-known R.RingOpen = refl
 
 -- a byte beside a multiple of 256
 digits : (n k m j : ℕ) → k < 256 → j < 256 → 2147483648 + (256 * n + k) ≡ 2147483648 + (256 * m + j) → (n ≡ m) × (k ≡ j)

@@ -22,13 +22,13 @@ pub(crate) fn far(z: i32) -> bool
     (1000000000 < z) | (z < -1000000000)
 }
 
-pub(crate) fn far_corner(c: Corner) -> bool
+pub fn far_corner(c: Corner) -> bool
     ensures { λ r. ⌜ r ≡ farCorner c ⌝ }
 {
     far(c.x) | far(c.y)
 }
 
-pub(crate) fn same_corner(a: Corner, b: Corner) -> bool
+pub fn same_corner(a: Corner, b: Corner) -> bool
     ensures { λ r. ⌜ r ≡ sameCorner a b ⌝ }
 {
     (a.x == b.x) & (a.y == b.y)
