@@ -101,6 +101,24 @@ P1 = node(B, B, [
     end(0, -2, area((B, E, I), NOT)),
 ], areas=(B, B))
 
+# An area of A without width, its two sides on each other, from a wall of B into the room: docs/DIFFERENCES.md's worked
+# star. Its end is a line on A's boundary, which collapses A at the node (request R-6).
+SHRUNK = [
+    (0, 2, area(NOT, (B, I, E))),
+    (-4, 0, line(B, NONE)),
+    (0, -2, area(NOT, (B, E, I))),
+]
+
+
+def shrunk(ends):
+    return node(B, B, [end(*e) for e in ends], areas=(B, B))
+
+
+def turned(ends):
+    """By ninety degrees, against the clock."""
+    return [(-dy, dx, label) for dx, dy, label in ends]
+
+
 PLANS = [
     dict(name='overlap', title='P1: a reader\'s area overlaps a room', bytes=P1, prints=answers('212101212'),
          a=[[(0, 0), (4, 0), (4, 4), (0, 4)]], b=[[(2, 2), (6, 2), (6, 6), (2, 6)]],
@@ -145,6 +163,20 @@ PLANS = [
          named=dict(A=(1.2, 2.6), B=(8, 3)),
          alt='A line leads through a wall of a rectangle and ends within. A node is marked in the wall.',
          notes=['black: the node in the wall, and its four ends', 'blue dots: the path\'s two ends, A\'s boundary']),
+    dict(name='shrunk', title='A reader\'s area that has shrunk to a line leads from a wall into the room',
+         bytes=shrunk(SHRUNK), prints=answers('FFF10F212'),
+         lines=[[(6, 2), (2, 2)]], b=[[(0, 0), (6, 0), (6, 4), (0, 4)]],
+         nodes=[((6, 2), [(0, 2), (-4, 0), (0, -2)])], named=dict(A=(3, 2.6), B=(1, 3)),
+         alt='A line leads from the right wall of a rectangle to a place within. A node is marked in the wall.',
+         notes=['black: the record\'s node, and its three ends',
+                'A has no width: the line is its boundary, and it has no inside']),
+    dict(name='shrunk_turned', title='The same plan turned by ninety degrees has the same matrix',
+         bytes=shrunk(turned(SHRUNK)), prints=answers('FFF10F212'),
+         lines=[[(2, 6), (2, 2)]], b=[[(0, 0), (4, 0), (4, 6), (0, 6)]],
+         nodes=[((2, 6), [(-2, 0), (0, -4), (2, 0)])], named=dict(A=(1.4, 3), B=(1, 1)),
+         alt='The same rectangle and line, turned: the line leads down from the upper wall.',
+         notes=['black: the record\'s node, and its three ends',
+                'in the order of directions A\'s end is now the last']),
     dict(name='apart', title='A reader\'s area and a room apart',
          bytes=edge(area((B, I, E), (E, E, E))) + edge(area((E, E, E), (B, I, E))), prints=answers('FF2FF1212'),
          a=[[(0, 0), (3, 0), (3, 3), (0, 3)]], b=[[(5, 1), (8, 1), (8, 4), (5, 4)]],

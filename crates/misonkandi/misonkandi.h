@@ -245,7 +245,7 @@ uint32_t misonkandi_point_in_outline(const int32_t *xy, size_t numbers, int32_t 
  *     order with a current position, first the start: an on of none becomes the current one; at an area bundle whose
  *     right is known the current one becomes its left; at an area bundle whose right is none both sides become the
  *     current one. A known right without a left is refusal 9.
- *   - Then every position still none becomes Outside if the last bundle is a line's and OnBoundary for that geometry;
+ *   - Then every position still none becomes Outside if any line bundle of the star is OnBoundary for that geometry;
  *     else the node's area position, or Outside if that is none (the geometry is no area). A line's label has no sides.
  *
  * Both calls check as a record does: 4 if the bytes are no whole ends; 5; for a star 6, an area position above 3; each

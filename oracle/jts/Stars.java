@@ -144,8 +144,7 @@ public class Stars {
         String said;
         try {
             star.computeLabelling(graph);
-            said = words[6].equals("collapse") ? "collapse" : "same";
-            said += " " + labels(star) + " " + poured(star, code(words[3]), code(words[4]));
+            said = "same " + labels(star) + " " + poured(star, code(words[3]), code(words[4]));
         } catch (TopologyException | AssertionFailedException thrown) {
             said = thrown(thrown) + " - -";
         }
@@ -154,8 +153,7 @@ public class Stars {
 
     private static String starKind(String foretold) {
         return switch (foretold) {
-            case "same" -> "EdgeEndBundleStar, updateIM: as document 01";
-            case "collapse" -> "EdgeEndBundleStar, updateIM: collapsed by an earlier bundle (document 01: by the last)";
+            case "same" -> "EdgeEndBundleStar, updateIM: as document 01 and request R-6";
             case "conflict" -> "EdgeEndBundleStar: throws on a side conflict (document 01 compares no sides)";
             case "left" -> "EdgeEndBundleStar: throws on a left without a right (document 01 walks on)";
             case "single" -> "EdgeEndBundleStar: throws on a right without a left (document 01: refusal 9)";

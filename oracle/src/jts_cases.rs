@@ -1,13 +1,13 @@
 //! Cases for the comparison with JTS, as lines of text: jts/README.md says what they show.
 //!
-//! JTS walks and collapses otherwise than document 01. Both differences are written down here, so that its answer to
-//! every star is foretold: which exception, or which labels and which matrix.
+//! JTS's walk throws where document 01's goes on or refuses. That is written down here, so that its answer to every star
+//! is foretold: which exception, or which labels and which matrix. It collapses as request R-6 says, by any line bundle.
 
 use crate::plan_pieces::{ALL_DIRECTIONS, Directions, Labels, count, direction, end, ends};
 use crate::random::Random;
 use crate::rule;
 use crate::rule_star::{
-    self, End, Label, Position, collapses, fill, order, pour_label, pour_node, quadrant,
+    self, End, Label, Position, collapsed, order, pour_label, pour_node, quadrant,
 };
 use std::fmt::Write as _;
 use std::io::{self, Write};
@@ -22,7 +22,7 @@ const HEAD: &str = "\
 # D dx dy dx dy, the quadrants of both, order (-1 the first comes earlier, 0 the same bundle, 1 later)
 # B ends, their joined label
 # S area codes, node codes, ends, what JTS makes of them, completed labels, matrix poured into FFFFFFFF2
-#   same: as document 01; collapse: document 01 has other labels; conflict, left, single: JTS throws, and the rest is -
+#   same: as document 01 and request R-6; conflict, left, single: JTS throws, and the rest is -
 # P label, matrix before, matrix after; N node codes, matrix before, matrix after
 # An end is 15 bytes and a label 7, in hex, as in a plan record; - stands for no bytes.
 ";
@@ -223,16 +223,6 @@ fn jts_throws(bundles: &[Label]) -> Option<&'static str> {
     None
 }
 
-/// JTS's labels: document 01's walk, and a geometry that any line bundle on its boundary collapses.
-fn jts_labels(ends: &[End], areas: [Option<Position>; 2]) -> Vec<Label> {
-    let mut labels = rule_star::walked(ends).expect("no single side: JTS would have thrown");
-    for (geometry, area) in areas.into_iter().enumerate() {
-        let collapsed = labels.iter().any(|label| collapses(label, geometry));
-        fill(&mut labels, geometry, collapsed, area);
-    }
-    labels
-}
-
 fn star(random: &mut Random, bytes: &[u8]) -> String {
     let codes: [u8; 4] = [
         random.below(4) as u8,
@@ -248,17 +238,15 @@ fn star(random: &mut Random, bytes: &[u8]) -> String {
     if let Some(class) = jts_throws(&rule_star::bundles(&ends)) {
         return format!("{head} {class} - -\n");
     }
-    let areas = [area_a, area_b];
-    let labels = jts_labels(&ends, areas);
-    let same = rule_star::star(&ends, areas).as_ref() == Ok(&labels);
-    let class = if same { "same" } else { "collapse" };
+    let labels = rule_star::star(&ends, [area_a, area_b], collapsed)
+        .expect("no single side: JTS would have thrown");
     let mut cells = [0, 0, 0, 0, 0, 0, 0, 0, 3];
     pour_node(&mut cells, [node_a, node_b]);
     for label in &labels {
         pour_label(&mut cells, label);
     }
     let bytes: Vec<u8> = labels.iter().flat_map(|label| label.to_bytes()).collect();
-    format!("{head} {class} {} {}\n", hex(&bytes), letters(&cells))
+    format!("{head} same {} {}\n", hex(&bytes), letters(&cells))
 }
 
 /// A label, or every sixth time a node, poured into any matrix.

@@ -1,9 +1,12 @@
-//! The listed differences between the crate and the rules that calls on a matrix can meet, and when exactly each is
-//! there. docs/DIFFERENCES.md tells them; a difference that isn't exactly one of these is a fault.
+//! The listed differences between the crate and the rules that calls can meet, and when exactly each is there.
+//! docs/DIFFERENCES.md tells them; a difference that isn't exactly one of these is a fault.
 
 use crate::asked::{self, Answer, Said};
+use crate::asked_star::PlanSaid;
+use crate::ours::plans::{PlanCall, PlanOp};
 use crate::ours::{Call, Op};
 use crate::rule::{self, Outcome};
+use crate::rule_plan::{self, PlanOutcome};
 
 #[derive(Clone, Copy, Debug, PartialEq, Eq, PartialOrd, Ord)]
 pub enum Listed {
@@ -11,6 +14,9 @@ pub enum Listed {
     KeepsRaised,
     /// Request R-5: a bad letter is always reported.
     WalksPast,
+    /// Request R-6: any line bundle on the boundary collapses a geometry. In a star's labels, and in a record's matrix.
+    LastDecidesLabels,
+    LastDecidesMatrix,
 }
 
 impl Listed {
@@ -21,6 +27,12 @@ impl Listed {
             }
             Listed::WalksPast => {
                 "a bad letter behind a cell that disagrees: the crate's matches says no and never looks at it"
+            }
+            Listed::LastDecidesLabels => {
+                "a star with an earlier line bundle on the boundary: the crate has only the last bundle collapse a geometry, and other labels"
+            }
+            Listed::LastDecidesMatrix => {
+                "a record with an earlier line bundle on the boundary: the crate has only the last bundle collapse a geometry, and another matrix"
             }
         }
     }
@@ -65,4 +77,21 @@ fn walks_past(call: &Call, due: &Outcome, said: &Said) -> bool {
     let mut pairs = before.zip(rule::read(&call.cells));
     due.word == rule::BAD_BYTE + place as u32
         && pairs.any(|(byte, cell)| rule::agrees(*byte, cell) == Some(false))
+}
+
+/// Which listed difference a call on a star or a record meets. The crate's answer is exactly what document 01 said
+/// before request R-6, and that isn't what the request says. The two rules have all but the collapse in common, so that
+/// an earlier line bundle on the boundary is the only reason there can be.
+pub fn plan_difference(call: &PlanCall, due: &PlanOutcome, said: &PlanSaid) -> Option<Listed> {
+    let listed = match call.op {
+        PlanOp::Star => Listed::LastDecidesLabels,
+        PlanOp::Record => Listed::LastDecidesMatrix,
+        _ => return None,
+    };
+    let PlanSaid::Gave { word, out } = said else {
+        return None;
+    };
+    let old = rule_plan::old_outcome(call);
+    let exactly = (*word, out) == (old.word, &old.out) && old != *due;
+    (exactly && !rule::refuses(due.word)).then_some(listed)
 }

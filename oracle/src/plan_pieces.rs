@@ -155,6 +155,21 @@ pub fn ends(random: &mut Random, count: usize) -> Vec<u8> {
     ends
 }
 
+/// Good ends, turned by ninety degrees against the clock.
+pub fn turned(ends: &[u8]) -> Vec<u8> {
+    let (ends, _) = ends.as_chunks::<END_BYTES>();
+    let part = |end: &[u8], at: usize| {
+        let four = end[at..at + 4].try_into().expect("four bytes");
+        i32::from_be_bytes(four)
+    };
+    let turn = |bytes: &[u8; END_BYTES]| {
+        let (dx, dy) = (part(bytes, 0), part(bytes, 4));
+        let label = bytes[8..].try_into().expect("seven bytes");
+        end((-dy, dx), label)
+    };
+    ends.iter().flat_map(turn).collect()
+}
+
 /// Mostly a few ends, and often about as many as there may be; 0 to 34.
 pub fn count(random: &mut Random) -> usize {
     match random.below(8) {

@@ -1,13 +1,13 @@
 //! Document 01's rules for plan records, and what each call on ends, records, reports and outlines must answer. The
-//! rules for reports stand in rule_report.rs, those for outlines in rule_outline.rs.
+//! rules for stars stand in rule_star.rs, those for reports in rule_report.rs, those for outlines in rule_outline.rs.
 
 use crate::ours::plans::{LABELS, PlanCall, PlanOp};
 use crate::rule::{self, BAD_CODE, refusal};
 use crate::rule_outline;
 use crate::rule_report;
 use crate::rule_star::{
-    self, LABEL_BYTES, Label, MOST_ENDS, Position, TOO_MANY_ENDS, WRONG_LENGTH, pour_label,
-    pour_node,
+    self, Collapsed, LABEL_BYTES, Label, MOST_ENDS, Position, TOO_MANY_ENDS, WRONG_LENGTH,
+    collapsed, old_collapsed, pour_label, pour_node,
 };
 
 pub const TOO_FEW_BYTES: u32 = refusal(1);
@@ -35,10 +35,19 @@ pub struct PlanOutcome {
 }
 
 pub fn outcome(call: &PlanCall) -> PlanOutcome {
+    outcome_by(call, collapsed)
+}
+
+/// The same before request R-6: only the last bundle in order decides whether a geometry is collapsed.
+pub fn old_outcome(call: &PlanCall) -> PlanOutcome {
+    outcome_by(call, old_collapsed)
+}
+
+fn outcome_by(call: &PlanCall, collapsed: Collapsed) -> PlanOutcome {
     match call.op {
         PlanOp::Bundle => written(call, bundle(&call.bytes)),
-        PlanOp::Star => written(call, star(&call.bytes, call.a, call.b)),
-        PlanOp::Record => used(call, record(&call.cells(), &call.bytes)),
+        PlanOp::Star => written(call, star(&call.bytes, call.a, call.b, collapsed)),
+        PlanOp::Record => used(call, record_by(&call.cells(), &call.bytes, collapsed)),
         PlanOp::ReadReport => used(call, rule_report::read(&call.bytes)),
         PlanOp::WriteReport => put(call, &rule_report::long(&call.cells())),
         PlanOp::WriteShortReport => put(call, &rule_report::short(&call.cells())),
@@ -81,11 +90,11 @@ fn bundle(bytes: &[u8]) -> Result<(u32, Vec<u8>), u32> {
 }
 
 /// In a record's order: 4, 5, the area positions' 6, each end in turn, 9. The header: zeros after the last label.
-fn star(bytes: &[u8], a: u32, b: u32) -> Result<(u32, Vec<u8>), u32> {
+fn star(bytes: &[u8], a: u32, b: u32, collapsed: Collapsed) -> Result<(u32, Vec<u8>), u32> {
     rule_star::whole_ends(bytes)?;
     let area = |code: u32| rule_star::position(u8::try_from(code).unwrap_or(u8::MAX));
     let areas = [area(a)?, area(b)?];
-    let labels = rule_star::star(&rule_star::ends(bytes)?, areas)?;
+    let labels = rule_star::star(&rule_star::ends(bytes)?, areas, collapsed)?;
     let mut out: Vec<u8> = labels.iter().flat_map(|label| label.to_bytes()).collect();
     out.resize(LABELS, 0);
     Ok((labels.len() as u32, out))
@@ -100,8 +109,13 @@ pub fn promised(bytes: &[u8]) -> Result<&[u8], u32> {
     rest.get(..length).ok_or(TOO_FEW_BYTES)
 }
 
-/// "Record order: 1; length below 2 is 4; 2; 3; length below 7 (kind 1) or not 9 (kind 2) is 4; .."
+/// The new matrix of a record, or its refusal.
 pub fn record(cells: &[u8; 9], bytes: &[u8]) -> Result<(u32, [u8; 9]), u32> {
+    record_by(cells, bytes, collapsed)
+}
+
+/// "Record order: 1; length below 2 is 4; 2; 3; length below 7 (kind 1) or not 9 (kind 2) is 4; .."
+fn record_by(cells: &[u8; 9], bytes: &[u8], collapsed: Collapsed) -> Result<(u32, [u8; 9]), u32> {
     let promised = promised(bytes)?;
     let [version, kind, body @ ..] = promised else {
         return Err(WRONG_LENGTH);
@@ -111,7 +125,7 @@ pub fn record(cells: &[u8; 9], bytes: &[u8]) -> Result<(u32, [u8; 9]), u32> {
     }
     let mut cells = rule::read(cells);
     match kind {
-        1 => pour_node_record(&mut cells, body)?,
+        1 => pour_node_record(&mut cells, body, collapsed)?,
         2 => pour_edge_record(&mut cells, body)?,
         _ => return Err(BAD_KIND),
     }
@@ -120,7 +134,7 @@ pub fn record(cells: &[u8; 9], bytes: &[u8]) -> Result<(u32, [u8; 9]), u32> {
 
 /// ".. length below 7 (kind 1) is 4; 5; length not 7 + 15n is 4; node and area positions 6; each end in turn ..; last
 /// 9."
-fn pour_node_record(cells: &mut [u8; 9], body: &[u8]) -> Result<(), u32> {
+fn pour_node_record(cells: &mut [u8; 9], body: &[u8], collapsed: Collapsed) -> Result<(), u32> {
     let [node_a, node_b, area_a, area_b, count, bytes @ ..] = body else {
         return Err(WRONG_LENGTH);
     };
@@ -133,7 +147,7 @@ fn pour_node_record(cells: &mut [u8; 9], body: &[u8]) -> Result<(), u32> {
     }
     let nodes = [node_position(*node_a)?, node_position(*node_b)?];
     let areas = [rule_star::position(*area_a)?, rule_star::position(*area_b)?];
-    let labels = rule_star::star(&rule_star::ends(bytes)?, areas)?;
+    let labels = rule_star::star(&rule_star::ends(bytes)?, areas, collapsed)?;
     pour_node(cells, nodes);
     for label in &labels {
         pour_label(cells, label);

@@ -1,5 +1,5 @@
-//! Document 01's rules for labels, bundles, the direction order, stars and pouring, written down plainly and apart from
-//! the crate.
+//! Document 01's rules for labels, bundles, the direction order, stars and pouring, and request R-6's for the collapse,
+//! written down plainly and apart from the crate.
 //!
 //! Nothing here is clever: a bundle is looked through once for each question, a star is sorted and cut into bundles.
 
@@ -231,24 +231,28 @@ fn walk(bundles: &mut [Label], geometry: usize) {
     }
 }
 
-/// "geometry g is collapsed if the last bundle in order is a line bundle whose on for g is OnBoundary"
-fn collapsed(bundles: &[Label], geometry: usize) -> bool {
+/// Whether a geometry is collapsed, by the bundles as the walks leave them.
+pub type Collapsed = fn(&[Label], usize) -> bool;
+
+/// Request R-6: "collapsed if any line bundle of the star has on OnBoundary for that geometry"
+pub fn collapsed(bundles: &[Label], geometry: usize) -> bool {
+    bundles.iter().any(|label| collapses(label, geometry))
+}
+
+/// Document 01, before that request, and the crate: "geometry g is collapsed if the last bundle in order is a line bundle
+/// whose on for g is OnBoundary". It is here to know the crate's answers by: see listed.rs.
+pub fn old_collapsed(bundles: &[Label], geometry: usize) -> bool {
     bundles.last().is_some_and(|last| collapses(last, geometry))
 }
 
 /// Whether a label is a line label whose on is OnBoundary.
-pub fn collapses(label: &Label, geometry: usize) -> bool {
+fn collapses(label: &Label, geometry: usize) -> bool {
     !label.area && label.halves[geometry].on == Some(OnBoundary)
 }
 
 /// "Every position still none becomes Outside if g is collapsed, else the node's area position for g, or Outside if g
 /// is no area."
-pub fn fill(
-    bundles: &mut [Label],
-    geometry: usize,
-    collapsed: bool,
-    area_position: Option<Position>,
-) {
+fn fill(bundles: &mut [Label], geometry: usize, collapsed: bool, area_position: Option<Position>) {
     let position = match area_position {
         Some(position) if !collapsed => position,
         _ => Outside,
@@ -264,7 +268,7 @@ pub fn fill(
 }
 
 /// The bundles in order after both walks, with the nones that these leave, or refusal 9.
-pub fn walked(ends: &[End]) -> Result<Vec<Label>, u32> {
+fn walked(ends: &[End]) -> Result<Vec<Label>, u32> {
     let mut bundles = bundles(ends);
     for geometry in 0..2 {
         if single_side(&bundles, geometry) {
@@ -276,11 +280,15 @@ pub fn walked(ends: &[End]) -> Result<Vec<Label>, u32> {
 }
 
 /// The completed labels of a star, in order, or refusal 9.
-pub fn star(ends: &[End], area_positions: [Option<Position>; 2]) -> Result<Vec<Label>, u32> {
+pub fn star(
+    ends: &[End],
+    area_positions: [Option<Position>; 2],
+    collapsed: Collapsed,
+) -> Result<Vec<Label>, u32> {
     let mut bundles = walked(ends)?;
+    let both = [0, 1].map(|geometry| collapsed(&bundles, geometry));
     for (geometry, area_position) in area_positions.into_iter().enumerate() {
-        let collapsed = collapsed(&bundles, geometry);
-        fill(&mut bundles, geometry, collapsed, area_position);
+        fill(&mut bundles, geometry, both[geometry], area_position);
     }
     Ok(bundles)
 }
@@ -305,5 +313,214 @@ pub fn pour_label(cells: &mut [u8; 9], label: &Label) {
     if label.area {
         raise(cells, a.left, b.left, 3);
         raise(cells, a.right, b.right, 3);
+    }
+}
+
+#[cfg(test)]
+mod tests {
+    use super::*;
+    use crate::random::Random;
+
+    const START: [u8; 9] = [0, 0, 0, 0, 0, 0, 0, 0, 3];
+
+    /// What an end's label says: its kind, then on, left and right of A and of B.
+    fn end(dx: i32, dy: i32, label: [u8; 7]) -> End {
+        let label = Label::from_bytes(&label).expect("a good label");
+        End { dx, dy, label }
+    }
+
+    /// Turned by ninety degrees, against the clock.
+    fn turned(ends: &[End]) -> Vec<End> {
+        let turn = |end: &End| End {
+            dx: -end.dy,
+            dy: end.dx,
+            ..*end
+        };
+        ends.iter().map(turn).collect()
+    }
+
+    /// The labels in order and the matrix: node and area positions by their codes.
+    fn poured(
+        ends: &[End],
+        node: [u8; 2],
+        areas: [u8; 2],
+        collapsed: Collapsed,
+    ) -> (Vec<[u8; 7]>, String) {
+        let codes = |codes: [u8; 2]| codes.map(|code| position(code).expect("a good code"));
+        let labels = star(ends, codes(areas), collapsed).expect("no single side");
+        let mut cells = START;
+        pour_node(&mut cells, codes(node));
+        for label in &labels {
+            pour_label(&mut cells, label);
+        }
+        let text = crate::rule::text(&cells).map(char::from).iter().collect();
+        (labels.into_iter().map(Label::to_bytes).collect(), text)
+    }
+
+    /// docs/DIFFERENCES.md's worked star: an area of A that has shrunk to a line meets a wall of B from within.
+    #[test]
+    fn the_worked_star() {
+        let wall_up = [1, 0, 0, 0, 2, 1, 3];
+        let shrunk = [0, 2, 0, 0, 0, 0, 0];
+        let wall_down = [1, 0, 0, 0, 2, 3, 1];
+        let ends = [
+            end(0, 2, wall_up),
+            end(-4, 0, shrunk),
+            end(0, -2, wall_down),
+        ];
+        let asked = |ends: &[End], rule| poured(ends, [2, 2], [2, 2], rule);
+
+        let collapsed_labels = [
+            [1, 3, 3, 3, 2, 1, 3],
+            [0, 2, 0, 0, 1, 0, 0],
+            [1, 3, 3, 3, 2, 3, 1],
+        ];
+        let (labels, matrix) = asked(&ends, collapsed);
+        assert_eq!(labels, collapsed_labels);
+        assert_eq!(matrix, "FFF10F212");
+        let (labels, matrix) = asked(&ends, old_collapsed);
+        let others = [
+            [1, 2, 2, 2, 2, 1, 3],
+            [0, 2, 0, 0, 1, 0, 0],
+            [1, 2, 2, 2, 2, 3, 1],
+        ];
+        assert_eq!(labels, others);
+        assert_eq!(matrix, "FFF212FF2");
+
+        // Turned, the shrunk area is the last: both rules agree, and the order starts with the wall that was down.
+        let ends = turned(&ends);
+        let again = [
+            collapsed_labels[2],
+            collapsed_labels[0],
+            collapsed_labels[1],
+        ];
+        for rule in [collapsed as Collapsed, old_collapsed] {
+            let (labels, matrix) = asked(&ends, rule);
+            assert_eq!(labels, again);
+            assert_eq!(matrix, "FFF10F212");
+        }
+    }
+
+    /// crates/worked's star: two lines in B, of the second of which A says nothing.
+    #[test]
+    fn the_proved_star() {
+        let ends = [
+            end(2, 0, [0, 2, 0, 0, 1, 0, 0]),
+            end(0, -2, [0, 0, 0, 0, 1, 0, 0]),
+        ];
+        let asked = |ends: &[End], rule| poured(ends, [2, 1], [1, 0], rule).1;
+        assert_eq!(asked(&ends, collapsed), "FFF1FF1F2");
+        assert_eq!(asked(&ends, old_collapsed), "1FF1FFFF2");
+        assert_eq!(asked(&turned(&ends), collapsed), "FFF1FF1F2");
+        assert_eq!(asked(&turned(&ends), old_collapsed), "FFF1FF1F2");
+    }
+
+    /// docs/LOOSE.md: a left without a right is overwritten by the walk, and which one is the start still goes by the
+    /// order.
+    #[test]
+    fn a_left_without_a_right_still_turns() {
+        let ends = [
+            end(1, 0, [1, 0, 1, 0, 2, 0, 0]),
+            end(0, -1, [1, 0, 3, 0, 2, 0, 0]),
+        ];
+        let asked = |ends: &[End]| poured(ends, [2, 1], [0, 1], collapsed).1;
+        assert_eq!(asked(&ends), "FFF0FF212");
+        assert_eq!(asked(&turned(&ends)), "21F0FFFF2");
+    }
+
+    fn any_label(random: &mut Random) -> [u8; 7] {
+        let mut label: [u8; 7] = std::array::from_fn(|_| random.below(4) as u8);
+        label[0] = random.below(2) as u8;
+        for at in [1, 2, 3, 4, 5, 6] {
+            let side = at % 3 != 1;
+            if side && label[0] == 0 || random.below(3) == 0 {
+                label[at] = 0;
+            }
+        }
+        label
+    }
+
+    fn any_ends(random: &mut Random) -> Vec<End> {
+        let around = [(2, 0), (1, 1), (0, 3), (-1, 0), (-2, -1), (0, -1)];
+        let count = random.below(5);
+        let ends = (0..count).map(|_| {
+            let (dx, dy) = random.pick(&around);
+            end(dx, dy, any_label(random))
+        });
+        ends.collect()
+    }
+
+    /// docs/DIFFERENCES.md, 3, says when the two rules have other labels.
+    #[test]
+    fn where_the_rules_differ() {
+        let random = &mut Random::new(2);
+        let mut differ = 0;
+        for _ in 0..20_000 {
+            let ends = any_ends(random);
+            let areas = [0, 1].map(|_| position(random.below(4) as u8).expect("a code"));
+            let (Ok(new), Ok(old)) = (
+                star(&ends, areas, collapsed),
+                star(&ends, areas, old_collapsed),
+            ) else {
+                continue;
+            };
+            let bundles = bundles(&ends);
+            let told = |geometry: usize| {
+                let (last, earlier) = bundles.split_last().expect("a bundle");
+                let known = |label: &Label| {
+                    let half = label.halves[geometry];
+                    let sides = half.left.is_some() && half.right.is_some();
+                    half.on.is_some() && (!label.area || sides)
+                };
+                earlier.iter().any(|label| collapses(label, geometry))
+                    && !collapses(last, geometry)
+                    && start(&bundles, geometry).is_none()
+                    && matches!(areas[geometry], Some(Inside | OnBoundary))
+                    && !bundles.iter().all(known)
+            };
+            let told = !bundles.is_empty() && (told(0) || told(1));
+            assert_eq!(new != old, told, "{ends:?}");
+            differ += usize::from(told);
+        }
+        assert!(differ > 100, "{differ} differ");
+    }
+
+    /// Where each bundle with a left has a right, turning changes where the order of the labels starts, and no label and no
+    /// cell. Stars where the old rule has other labels are among these.
+    #[test]
+    fn turning_changes_nothing_else() {
+        let random = &mut Random::new(6);
+        let (mut asked, mut differ) = (0, 0);
+        for _ in 0..6_000 {
+            let ends = any_ends(random);
+            let node = [1 + random.below(3) as u8, 1 + random.below(3) as u8];
+            let areas = [random.below(4) as u8, random.below(4) as u8];
+            let mut halves = bundles(&ends).into_iter().flat_map(|label| label.halves);
+            let left_alone = halves.any(|half| half.left.is_some() && half.right.is_none());
+            if left_alone || walked(&ends).is_err() {
+                continue;
+            }
+            asked += 1;
+            let (labels, matrix) = poured(&ends, node, areas, collapsed);
+            let (old_labels, _) = poured(&ends, node, areas, old_collapsed);
+            differ += usize::from(labels != old_labels);
+            let mut other = ends;
+            for _ in 0..3 {
+                other = turned(&other);
+                let (mut turned_labels, turned_matrix) = poured(&other, node, areas, collapsed);
+                let starts = 0..turned_labels.len().max(1);
+                let found = starts.into_iter().any(|_| {
+                    let same = turned_labels == labels;
+                    let places = turned_labels.len().min(1);
+                    turned_labels.rotate_left(places);
+                    same
+                });
+                assert!(found && turned_matrix == matrix);
+            }
+        }
+        assert!(
+            asked > 1_000 && differ > 50,
+            "{asked} asked, {differ} differ"
+        );
     }
 }

@@ -1,20 +1,23 @@
 //! The sample's lines of bundles, stars, plan records and stored reports, and the writing of these and of outlines.
 
 use crate::asked_star::{self, PlanSaid};
+use crate::listed;
 use crate::ours::plans::{PlanCall, PlanOp};
 use crate::plan_pieces::{
-    damage_ends, damaged_record, edge_record, end, ends, node_record, record, with_bytes_after,
+    damage_ends, damaged_record, edge_record, end, ends, node_record, record, turned,
+    with_bytes_after,
 };
 use crate::random::Random;
 use crate::rule;
 use crate::rule_plan::{self, PlanOutcome, REACHABLE};
 use crate::rule_report::long;
-use crate::rule_star::SINGLE_SIDE;
+use crate::rule_star::{END_BYTES, SINGLE_SIDE};
 use crate::sample_line::{Case, MOST_CONVERTED, MOST_GIVEN};
 
 /// The most bytes of the small records, and the most ends of the small stars.
 const SMALL_RECORD: usize = 64;
 const SMALL_STAR: usize = 4;
+const START: [u8; 9] = [0, 0, 0, 0, 0, 0, 0, 0, 3];
 /// Of the whole ones, so that the small ones don't hang on them.
 const SEED: u64 = 7;
 
@@ -29,7 +32,9 @@ pub const HEAD: &str = "\
 # B, K, N: joining, completing and raising are the crate's edge_end_bundle.rs, edge_end_bundle_star.rs, label.rs,
 # topology_position.rs and intersection_matrix.rs, compiled unchanged; its panic is refusal 9. Document 01 alone gives
 # the reading of bytes, the other refusals, the direction order, the parity of boundary counts, and which cells one label
-# and a node raise. D, E, F, C: document 01 and request R-3 alone (oracle/src/rule_report.rs); the crate has no reports.
+# and a node raise. K, N where a line bundle before the last is on the boundary and that matters: request R-6's labels and
+# matrix (oracle/src/rule_star.rs), where the crate's files have only the last bundle collapse a geometry.
+# D, E, F, C: document 01 and request R-3 alone (oracle/src/rule_report.rs); the crate has no reports.
 ";
 
 /// About 900 records and 600 stars of few ends.
@@ -50,6 +55,37 @@ pub fn more_calls() -> Vec<PlanCall> {
     calls.extend(bundles(random));
     calls.extend(reports_read(random));
     calls.extend(reports_written(random));
+    calls.extend(collapsed_stars());
+    calls
+}
+
+/// Stars where the first bundle collapses A, and their records, at each quarter turn: request R-6's answer is the same at
+/// each but for where the labels start, the crate's isn't. docs/DIFFERENCES.md's star, then the two lines of
+/// crates/worked.
+fn collapsed_stars() -> Vec<PlanCall> {
+    let shrunk = end((-4, 0), &[0, 2, 0, 0, 0, 0, 0]);
+    let worked = [
+        end((0, 2), &[1, 0, 0, 0, 2, 1, 3]),
+        shrunk,
+        end((0, -2), &[1, 0, 0, 0, 2, 3, 1]),
+    ];
+    let lines = [
+        end((2, 0), &[0, 2, 0, 0, 1, 0, 0]),
+        end((0, -2), &[0, 0, 0, 0, 1, 0, 0]),
+    ];
+    let mut calls = Vec::new();
+    for (mut ends, [node_a, node_b, a, b]) in [
+        (worked.concat(), [2, 2, 2, 2]),
+        (lines.concat(), [2, 1, 1, 0]),
+    ] {
+        for _ in 0..4 {
+            let head = [node_a, node_b, a, b, (ends.len() / END_BYTES) as u8];
+            let bytes = record(1, &[&head[..], &ends].concat());
+            calls.push(PlanCall::star(ends.clone(), a.into(), b.into()));
+            calls.push(PlanCall::on_cells(PlanOp::Record, START, bytes));
+            ends = turned(&ends);
+        }
+    }
     calls
 }
 
@@ -131,8 +167,7 @@ fn star(random: &mut Random, ends: Vec<u8>) -> PlanCall {
 /// P1; each number of ends up to 32, 33 and 34; one record cut at every byte; damaged ones.
 fn whole_records(random: &mut Random) -> Vec<PlanCall> {
     let p1 = [&[2, 2, 2, 2, 4][..], &p1_ends()].concat();
-    let start = [0, 0, 0, 0, 0, 0, 0, 0, 3];
-    let mut calls = vec![PlanCall::on_cells(PlanOp::Record, start, record(1, &p1))];
+    let mut calls = vec![PlanCall::on_cells(PlanOp::Record, START, record(1, &p1))];
     let mut records = Vec::new();
     for count in 4..=34 {
         for _ in 0..4 {
@@ -281,15 +316,20 @@ fn reports_written(random: &mut Random) -> Vec<PlanCall> {
     calls
 }
 
-/// Document 01's outcome, which the crate's files must agree with if they can be asked.
+/// The rules' outcome, which the crate's files must agree with if they can be asked, but for a listed difference.
 fn outcome(call: &PlanCall) -> PlanOutcome {
     let due = rule_plan::outcome(call);
-    let agrees = match asked_star::said(call) {
-        Some(PlanSaid::Gave { word, out }) => word == due.word && out == due.out,
+    let said = asked_star::said(call);
+    let agrees = match &said {
+        Some(PlanSaid::Gave { word, out }) => *word == due.word && *out == due.out,
         Some(PlanSaid::Panicked) => due.word == SINGLE_SIDE,
         None => !matches!(call.op, PlanOp::Bundle | PlanOp::Star | PlanOp::Record),
     };
-    assert!(agrees, "the crate and document 01 differ: {call:?}");
+    let listed = || said.and_then(|said| listed::plan_difference(call, &due, &said));
+    assert!(
+        agrees || listed().is_some(),
+        "the crate and the rules differ: {call:?}"
+    );
     due
 }
 

@@ -24,8 +24,9 @@
 //! [`Outline`] says where a point lies against a room's walls.
 //!
 //! What differs from geo: a refusal is a number and a place, not a text; a bad letter of a pattern is refused on every
-//! matrix; raising from text is all or nothing; `set`, `set_at_least` and their kin are public. docs/DIFFERENCES.md has the
-//! list, and what was run to know it.
+//! matrix; raising from text is all or nothing; any line on a geometry's boundary collapses it at a node, not only the
+//! last one in order; `set`, `set_at_least` and their kin are public. docs/DIFFERENCES.md has the list, and what was run to
+//! know it.
 //!
 //! The crate needs no `std`. Its feature `alloc`, on by default, is for [`star`] and [`star_of_bytes`], which answer a list.
 #![no_std]

@@ -24,8 +24,8 @@ use Rattle.star.specs.Completing.{
   rightAlone,
   missing,
   missingLeft,
-  lastOf,
   collapses,
+  collapsed,
   restOf,
   fillSides,
   fillLabel,
@@ -41,7 +41,6 @@ use Rattle.star.specs.Inner.Walking.{
   completeWalk,
   foundOf,
   lookedOf,
-  viewOf,
   startsFrom,
 }
 use Rattle.star.proofs.LawsWalk.{walkLabel, nextLabel, walkBoth, by-none, is-none, or-self, start-left, walked-both}
@@ -141,13 +140,13 @@ fill-walk ra rb c d (l ∷ ls) ta tb =
           (d .b) l ls tb),
     ) refl
 
--- ---- the last label
+-- ---- whether a geometry is collapsed
 
 abbrev currentOf : Geometry → Current → Position
 currentOf A c = c .a
 currentOf B c = c .b
 
--- a walk with nothing current, where no area has a left, leaves the last label's on
+-- a walk with nothing current, where no area has a left, leaves each label's on
 one-kept : (g : Geometry) (c : Current) (l : Label) → currentOf g c ≡ None → collapses g (walkLabel c l) ≡ collapses g l
 unfolding walkLabel
 one-kept A c l e = rw (e, or-self (l .a .on)) refl
@@ -158,14 +157,13 @@ unfolding nextLabel
 next-none A c l e h = rw e (none-next (l .area) None (l .a) h .0)
 next-none B c l e h = rw e (none-next (l .area) None (l .b) h .0)
 
-last-kept : (g : Geometry) (c : Current) (ls : List Label) → currentOf g c ≡ None → any (hasLeft g) ls ≡ false
-    → collapses g (lastOf (walkBoth c ls)) ≡ collapses g (lastOf ls)
+all-kept : (g : Geometry) (c : Current) (ls : List Label) → currentOf g c ≡ None → any (hasLeft g) ls ≡ false
+    → collapsed g (walkBoth c ls) ≡ collapsed g ls
 unfolding scan any
-last-kept g c [] e h = refl
-last-kept g c (l ∷ []) e h = one-kept g c l e
-last-kept g c (l ∷ (k ∷ ls)) e h =
-    last-kept g (nextLabel c l) (k ∷ ls) (next-none g c l e (neither (hasLeft g l) (any (hasLeft g) (k ∷ ls)) h .0))
-    (neither (hasLeft g l) (any (hasLeft g) (k ∷ ls)) h .1)
+all-kept g c [] e h = refl
+all-kept g c (l ∷ ls) e h =
+    let n = neither (hasLeft g l) (any (hasLeft g) ls) h in
+    rw (one-kept g c l e, all-kept g (nextLabel c l) ls (next-none g c l e (n .0)) (n .1)) refl
 
 -- ---- before the first label
 
@@ -174,26 +172,26 @@ and-rest true u e h = e
 and-rest false u e h = true-false (sym h)
 
 start-together : (g : Geometry) (p : Position) (c : Current) (ls : List Label) → currentOf g c ≡ startOf g ls → missing g ls ≡ false
-    → Together g (restOf (collapses g (lastOf (walkBoth c ls))) p) (startOf g ls)
-    (orElse (startOf g ls) (restOf (collapses g (lastOf ls)) p)) ls
+    → Together g (restOf (collapsed g (walkBoth c ls)) p) (startOf g ls)
+    (orElse (startOf g ls) (restOf (collapsed g ls) p)) ls
 start-together g p c ls e m = go (by-none (startOf g ls))
   where
     go : (isNone (startOf g ls) ≡ false) ⊎ (startOf g ls ≡ None)
-        → Together g (restOf (collapses g (lastOf (walkBoth c ls))) p) (startOf g ls)
-        (orElse (startOf g ls) (restOf (collapses g (lastOf ls)) p)) ls
+        → Together g (restOf (collapsed g (walkBoth c ls)) p) (startOf g ls)
+        (orElse (startOf g ls) (restOf (collapsed g ls) p)) ls
     go (inl k) =
         inl (k, rw k refl, and-rest (any (hasLeft g) ls) (any (rightAlone g) ls) m (sym (start-left g ls) ∙ rw k refl))
     go (inr z) =
         let h : any (hasLeft g) ls ≡ false = sym (start-left g ls) ∙ rw z refl in
-        inr (z, rw (z, last-kept g c ls (e ∙ z) h) refl, h)
+        inr (z, rw (z, all-kept g c ls (e ∙ z) h) refl, h)
 
 -- the completed star by the one walk
 pub completed-walk : (pa pb : Position) (ls : List Label) → missingLeft ls ≡ false
-    → completedOf pa pb ls ≡ completeWalk (startsFrom (viewOf ls) pa pb) ls
+    → completedOf pa pb ls ≡ completeWalk (startsFrom (lookedOf ls) pa pb) ls
 unfolding filledOf missingLeft lookedOf foundOf
 completed-walk pa pb ls m =
     let c : Current = record { a = startOf A ls; b = startOf B ls } in
     rw (walked-both ls)
-    (fill-walk (restOf (collapses A (lastOf (walkBoth c ls))) pa) (restOf (collapses B (lastOf (walkBoth c ls))) pb) c
-    (startsFrom (viewOf ls) pa pb) ls (start-together A pa c ls refl (neither (missing A ls) (missing B ls) m .0))
+    (fill-walk (restOf (collapsed A (walkBoth c ls)) pa) (restOf (collapsed B (walkBoth c ls)) pb) c
+    (startsFrom (lookedOf ls) pa pb) ls (start-together A pa c ls refl (neither (missing A ls) (missing B ls) m .0))
     (start-together B pb c ls refl (neither (missing A ls) (missing B ls) m .1)))

@@ -1,7 +1,9 @@
 -- The completed star has no none left in any label, except a line label's sides. Assumes nothing.
-use mathlib.Core.Path.{_≡_, refl}
-use mathlib.Core.Bool.{Bool, true, false}
-use mathlib.Core.List.{List, [], _∷_, map}
+use Prim.Native.Nat.{ℕ}
+use mathlib.Core.Path.{_≡_, refl, sym, ap, _∙_}
+use mathlib.Core.Bool.{Bool, true, false, _||_, or-assoc, or-comm}
+use mathlib.Core.List.{List, [], _∷_, _++_, map}
+use lib.ListN.{take, drop, take-append-drop}
 use Rattle.de9im.specs.declared.«coordinate_position».Position.{Position}
 use Rattle.de9im.specs.declared.«coordinate_position».Position.the-variants.{None, Inside, OnBoundary, Outside}
 use Rattle.star.specs.declared.«topology_position».Sides.{Sides}
@@ -9,7 +11,7 @@ use Rattle.star.specs.declared.label.Geometry.{Geometry}
 use Rattle.star.specs.declared.label.Geometry.the-variants.{A, B}
 use Rattle.star.specs.declared.label.Label.{Label}
 use Rattle.star.specs.Label.{halfOf, isNone, orElse}
-use Rattle.star.specs.Completing.{lastOf, collapses, restOf, fillSides, fillLabel, walkedOf, filledOf, completedOf}
+use Rattle.star.specs.Completing.{any, collapses, collapsed, restOf, fillSides, fillLabel, walkedOf, filledOf, completedOf}
 use Rattle.star.proofs.LawsOrder.{All, none, more}
 
 -- a half in which nothing is missing: its on, and the sides of an area
@@ -49,5 +51,21 @@ all-known g ra rb (l ∷ ls) h k = more (label-known g ra rb l h k) (all-known g
 pub completed-known : (g : Geometry) (pa pb : Position) (ls : List Label) → All (λ l. Known (l .area) (halfOf g l)) (completedOf pa pb ls)
 unfolding filledOf
 completed-known g pa pb ls =
-    all-known g (restOf (collapses A (lastOf (walkedOf ls))) pa) (restOf (collapses B (lastOf (walkedOf ls))) pb) (walkedOf ls)
-    (rest-known (collapses A (lastOf (walkedOf ls))) pa) (rest-known (collapses B (lastOf (walkedOf ls))) pb)
+    all-known g (restOf (collapsed A (walkedOf ls)) pa) (restOf (collapsed B (walkedOf ls)) pb) (walkedOf ls)
+    (rest-known (collapsed A (walkedOf ls)) pa) (rest-known (collapsed B (walkedOf ls)) pb)
+
+-- ---- whether a geometry is collapsed doesn't depend on where the order starts
+
+any-both : {X : Type 0} (t : X → Bool) (xs ys : List X) → any t (xs ++ ys) ≡ (any t xs || any t ys)
+unfolding any
+any-both t [] ys = refl
+any-both t (x ∷ xs) ys = ap (λ b. t x || b) (any-both t xs ys) ∙ sym (or-assoc (t x) (any t xs) (any t ys))
+
+-- the order started at its k-th bundle
+abbrev pub turnedBy : {X : Type 0} → ℕ → List X → List X
+turnedBy k xs = drop k xs ++ take k xs
+
+pub collapsed-anywhere : (g : Geometry) (k : ℕ) (ls : List Label) → collapsed g (turnedBy k ls) ≡ collapsed g ls
+collapsed-anywhere g k ls =
+    any-both (collapses g) (drop k ls) (take k ls) ∙ or-comm (any (collapses g) (drop k ls)) (any (collapses g) (take k ls))
+    ∙ sym (any-both (collapses g) (take k ls) (drop k ls)) ∙ ap (collapsed g) (take-append-drop k ls)

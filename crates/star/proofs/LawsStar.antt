@@ -4,16 +4,15 @@ use mathlib.Core.Bool.{_||_}
 use mathlib.Core.List.{List}
 use lib.ListN.{length}
 use Rattle.star.specs.declared.label.Label.{Label}
-use Rattle.star.specs.declared.look.View.{View}
+use Rattle.star.specs.declared.look.Looked.{Looked}
 use Rattle.star.specs.Completing.{walkedOf, missingLeft}
-use Rattle.star.specs.Inner.Walking.{foundOf, lookedOf, foundMissing, viewOf}
+use Rattle.star.specs.Inner.Walking.{foundOf, lookedOf, foundMissing}
 use Rattle.star.proofs.LawsLists.{scan-length}
 use Rattle.star.proofs.LawsWalk.{walkLabel, nextLabel, walked-both, missing-looked}
 
 pub walked-length : (xs : List Label) → length (walkedOf xs) ≡ length xs
 walked-length xs = ap length (walked-both xs) ∙ scan-length walkLabel nextLabel _ xs
 
-pub view-missing : (xs : List Label) (v : View) → v ≡ viewOf xs
-    → (foundMissing (v .looked .a) || foundMissing (v .looked .b)) ≡ missingLeft xs
+pub looked-missing : (xs : List Label) (w : Looked) → w ≡ lookedOf xs → (foundMissing (w .a) || foundMissing (w .b)) ≡ missingLeft xs
 unfolding lookedOf foundOf
-view-missing xs v e = rw e (missing-looked xs)
+looked-missing xs w e = rw e (missing-looked xs)

@@ -26,7 +26,7 @@ use Rattle.star.specs.Completing.{
   hasLeft,
   rightAlone,
   missingLeft,
-  lastOf,
+  collapses,
 }
 use Rattle.star.specs.Inner.Walking.{scan, foundOf, lookedOf, lookLabel}
 
@@ -150,9 +150,19 @@ any-snoc t (y ∷ ys) x = rw (any-snoc t ys x) (sym (or-assoc (t y) (any t ys) (
 pub looked-snoc : (ls : List Label) (l : Label) → lookedOf (ls ++ (l ∷ [])) ≡ lookLabel (lookedOf ls) l
 unfolding lookedOf foundOf
 looked-snoc ls l =
-    rw (start-snoc A ls l, start-snoc B ls l, any-snoc (rightAlone A) ls l, any-snoc (rightAlone B) ls l) refl
+    rw (
+      start-snoc A ls l,
+      start-snoc B ls l,
+      any-snoc (rightAlone A) ls l,
+      any-snoc (rightAlone B) ls l,
+      any-snoc (collapses A) ls l,
+      any-snoc (collapses B) ls l,
+    ) refl
 
-pub looked-none : lookedOf [] ≡ record { a = record { start = None; alone = false }; b = record { start = None; alone = false } }
+pub looked-none : lookedOf [] ≡ record {
+  a = record { start = None; alone = false; collapsed = false };
+  b = record { start = None; alone = false; collapsed = false };
+}
 unfolding lookedOf foundOf startOf any
 looked-none = refl
 
@@ -177,8 +187,3 @@ pub missing-looked : (ls : List Label)
     → (not (isNone (startOf A ls)) && any (rightAlone A) ls || not (isNone (startOf B ls)) && any (rightAlone B) ls) ≡ missingLeft ls
 unfolding missingLeft
 missing-looked ls = rw (start-left A ls, start-left B ls) refl
-
-pub last-snoc : (ls : List Label) (l : Label) → lastOf (ls ++ (l ∷ [])) ≡ l
-last-snoc [] l = refl
-last-snoc (k ∷ []) l = refl
-last-snoc (k ∷ (m ∷ ls)) l = last-snoc (m ∷ ls) l

@@ -2,8 +2,10 @@
 -- - Start is the left of the last area bundle in order that has one. If none has, this step does nothing.
 -- - Walk in order with current = start. An on of none becomes current. For an area bundle whose right is known, current
 --   becomes its left; a missing left is refusal 9. If right is none, both sides become current.
--- Then, over all bundles: geometry g is collapsed if the last bundle in order is a line bundle whose on for g is OnBoundary.
--- Every position still none becomes Outside if g is collapsed, else the node's area position for g, or Outside if g is no area."
+-- Then, over all bundles: [..] Every position still none becomes Outside if g is collapsed, else the node's area position for g, or
+-- Outside if g is no area."
+-- Request R-6, where document 01 has the last bundle in order alone: "collapsed if any line bundle of the star has on OnBoundary for
+-- that geometry".
 -- And number 9: "for one geometry, some area bundle has a left and some has a right but no left".
 use mathlib.Core.Bool.{Bool, false, cond, not, _&&_, _||_}
 use mathlib.Core.List.{List, [], _∷_, map}
@@ -13,7 +15,7 @@ use Rattle.star.specs.declared.«topology_position».Sides.{Sides}
 use Rattle.star.specs.declared.label.Geometry.{Geometry}
 use Rattle.star.specs.declared.label.Geometry.the-variants.{A, B}
 use Rattle.star.specs.declared.label.Label.{Label}
-use Rattle.star.specs.Label.{halfOf, isNone, isPos, orElse, blank}
+use Rattle.star.specs.Label.{halfOf, isNone, isPos, orElse}
 
 -- the left of an area bundle
 abbrev pub areaLeft : Geometry → Label → Position
@@ -68,19 +70,17 @@ missing g ls = any (hasLeft g) ls && any (rightAlone g) ls
 unfoldable pub missingLeft : List Label → Bool
 missingLeft ls = missing A ls || missing B ls
 
--- the last of a list
-abbrev pub lastOf : List Label → Label
-lastOf [] = blank
-lastOf (l ∷ []) = l
-lastOf (l ∷ (k ∷ ls)) = lastOf (k ∷ ls)
-
 -- a line bundle whose on is OnBoundary
 abbrev pub collapses : Geometry → Label → Bool
 collapses g l = not (l .area) && isPos (halfOf g l .on) OnBoundary
 
+-- some bundle of the star is one
+abbrev pub collapsed : Geometry → List Label → Bool
+collapsed g ls = any (collapses g) ls
+
 -- what a none becomes, by whether g is collapsed and by the node's area position, none if g is no area
 abbrev pub restOf : Bool → Position → Position
-restOf collapsed p = cond collapsed Outside (orElse p Outside)
+restOf c p = cond c Outside (orElse p Outside)
 
 abbrev pub fillSides : Bool → Position → Sides → Sides
 fillSides area rest s =
@@ -94,7 +94,7 @@ abbrev pub fillLabel : Position → Position → Label → Label
 fillLabel ra rb l = record { area = l .area; a = fillSides (l .area) ra (l .a); b = fillSides (l .area) rb (l .b) }
 
 unfoldable pub filledOf : Position → Position → List Label → List Label
-filledOf pa pb ls = map (fillLabel (restOf (collapses A (lastOf ls)) pa) (restOf (collapses B (lastOf ls)) pb)) ls
+filledOf pa pb ls = map (fillLabel (restOf (collapsed A ls) pa) (restOf (collapsed B ls) pb)) ls
 
 -- a star's labels completed, from the area positions of the node
 abbrev pub completedOf : Position → Position → List Label → List Label

@@ -3,15 +3,12 @@ use crate::edge_end::EdgeEnd;
 use crate::edge_end::check;
 use crate::gather::bundle_label;
 use crate::gather::gather;
-use crate::label::Geometry;
 use crate::label::Label;
 use crate::label::blank;
-use crate::label::half;
-use crate::look::View;
+use crate::look::Looked;
 use crate::look::look;
 use crate::look::missing;
 use crate::topology_position::Sides;
-use crate::topology_position::is_boundary;
 use crate::topology_position::is_none;
 use crate::topology_position::or_else;
 use crate::topology_position::pick;
@@ -22,7 +19,7 @@ ghost use mathlib.Core.Path.{_≡_};
 ghost use lib.ListN.{take};
 ghost use Rattle.star.specs.Label.{padded};
 ghost use Rattle.star.specs.Inner.Gather.{placedLabels, Placed};
-ghost use Rattle.star.specs.Completing.{collapses, restOf};
+ghost use Rattle.star.specs.Completing.{restOf};
 ghost use Rattle.star.specs.Ends.{Sound};
 ghost use Rattle.star.specs.Calls.{unlabeled, starOf, starCall};
 ghost use Rattle.star.specs.Inner.Walking.{
@@ -121,32 +118,24 @@ fn complete(
     out
 }
 
-// What a none becomes for a geometry, by the last label in order and the node's area position.
-fn rest(l: Label, g: Geometry, p: Position) -> Position
-    ensures { λ r. ⌜ r ≡ restOf (collapses g l) p ⌝ }
+// What a none becomes for a geometry, by whether it is collapsed and by the node's area position.
+fn rest(collapsed: bool, p: Position) -> Position
+    ensures { λ r. ⌜ r ≡ restOf collapsed p ⌝ }
 {
-    let s = half(l, g);
-    let on = s.on;
-    pick(
-        !l.area & is_boundary(on),
-        Position::Outside,
-        or_else(p, Position::Outside),
-    )
+    pick(collapsed, Position::Outside, or_else(p, Position::Outside))
 }
 
 // Where the walk of each geometry starts: at the left of the last area bundle that has one; where none has, at what a none
 // becomes, so that one walk completes both kinds of star.
-pub(crate) fn starts(view: View, area_a: Position, area_b: Position) -> Current
-    ensures { λ r. ⌜ r ≡ startsFrom view («area_a») («area_b») ⌝ }
+pub(crate) fn starts(w: Looked, area_a: Position, area_b: Position) -> Current
+    ensures { λ r. ⌜ r ≡ startsFrom w («area_a») («area_b») ⌝ }
 {
-    let w = view.looked;
-    let last = view.last;
     let fa = w.a;
     let fb = w.b;
     let a = fa.start;
     let b = fb.start;
-    let sa = or_else(a, rest(last, Geometry::A, area_a));
-    let sb = or_else(b, rest(last, Geometry::B, area_b));
+    let sa = or_else(a, rest(fa.collapsed, area_a));
+    let sb = or_else(b, rest(fb.collapsed, area_b));
     Current { a: sa, b: sb }
 }
 
@@ -178,11 +167,11 @@ pub(crate) fn star_of(ends: [EdgeEnd; 32], n: usize, area_a: Position, area_b: P
     let mut a = [0u64; 32];
     let mut b = [0u64; 32];
     let count = gather(ends, n, &mut order, &mut areas, &mut a, &mut b);
-    let view = look(&order, &areas, &a, &b, count);
-    if missing(view.looked) {
+    let looked = look(&order, &areas, &a, &b, count);
+    if missing(looked) {
         return unlabeled(Checked::Refused(Refusal::MissingLeft));
     }
-    let start = starts(view, area_a, area_b);
+    let start = starts(looked, area_a, area_b);
     Labeled {
         answer: Checked::Fine,
         labels: complete(&order, &areas, &a, &b, count, start),

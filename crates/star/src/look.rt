@@ -1,8 +1,9 @@
-// A look over the labels of a star in order: where the walk of each geometry starts, and whether refusal 9 is due.
+// A look over the labels of a star in order: where the walk of each geometry starts, whether it is collapsed, and whether refusal 9
+// is due.
 use crate::gather::bundle_label;
 use crate::label::Label;
-use crate::label::blank;
 use crate::topology_position::Sides;
+use crate::topology_position::is_boundary;
 use crate::topology_position::is_none;
 use crate::topology_position::or_else;
 use crate::topology_position::pick;
@@ -11,24 +12,20 @@ ghost use mathlib.Core.Bool.{_||_};
 ghost use mathlib.Core.Path.{_≡_};
 ghost use mathlib.Core.List.{[]};
 ghost use Rattle.star.specs.Inner.Gather.{placedLabels, Placed};
-ghost use Rattle.star.specs.Inner.Walking.{seenOf, lookLabel, lookedOf, foundMissing, viewOf};
+ghost use Rattle.star.specs.Inner.Walking.{seenOf, lookLabel, lookedOf, foundMissing};
 
-// What a look over the labels finds for one geometry: where its walk starts, and whether some right has no left beside it.
+// What a look over the labels finds for one geometry: where its walk starts, whether some right has no left beside it, and whether
+// some line bundle is on its boundary.
 pub(crate) struct Found {
     pub start: Position,
     pub alone: bool,
+    pub collapsed: bool,
 }
 
 // A look over the labels, for both geometries.
 pub(crate) struct Looked {
     pub a: Found,
     pub b: Found,
-}
-
-// What completing needs before its walk: the look, and the last label in order.
-pub(crate) struct View {
-    pub looked: Looked,
-    pub last: Label,
 }
 
 // Before any label is looked at.
@@ -38,6 +35,7 @@ fn nothing() -> Looked
     let f = Found {
         start: Position::None,
         alone: false,
+        collapsed: false,
     };
     Looked { a: f, b: f }
 }
@@ -45,14 +43,17 @@ fn nothing() -> Looked
 fn seen(f: Found, area: bool, s: Sides) -> Found
     ensures { λ r. ⌜ r ≡ seenOf f area s ⌝ }
 {
+    let on = s.on;
     let left = s.left;
     let right = s.right;
     let start = f.start;
     let next = or_else(pick(area, left, Position::None), start);
     let alone = area & (!is_none(right) & is_none(left));
+    let collapses = !area & is_boundary(on);
     Found {
         start: next,
         alone: f.alone | alone,
+        collapsed: f.collapsed | collapses,
     }
 }
 
@@ -92,18 +93,16 @@ pub(crate) fn look(
     a: &[u64; 32],
     b: &[u64; 32],
     n: usize,
-) -> View
+) -> Looked
     requires { ⌜ Placed (now order) n ⌝ }
-    ensures { λ r. ⌜ r ≡ viewOf (placedLabels (now (order .entry)) (now (areas .entry)) (now (a .entry)) (now (b .entry)) n) ⌝ }
+    ensures { λ r. ⌜ r ≡ lookedOf (placedLabels (now (order .entry)) (now (areas .entry)) (now (a .entry)) (now (b .entry)) n) ⌝ }
 {
     let mut w = nothing();
-    let mut last = blank();
     let mut i: usize = 0;
     while i < n {
         let l = bundle_label(order, areas, a, b, i);
         w = look_label(w, l);
-        last = l;
         i += 1;
     }
-    View { looked: w, last }
+    w
 }

@@ -111,8 +111,8 @@ pub fn pour_star(cells: Cells, node: Node, ends: [EdgeEnd; 32], n: usize) -> Cel
     let mut a = [0u64; 32];
     let mut b = [0u64; 32];
     let count = gather(ends, n, &mut order, &mut areas, &mut a, &mut b);
-    let view = look(&order, &areas, &a, &b, count);
-    if missing(view.looked) {
+    let looked = look(&order, &areas, &a, &b, count);
+    if missing(looked) {
         return CellsAnswer {
             answer: Checked::Refused(Refusal::MissingLeft),
             cells,
@@ -120,7 +120,7 @@ pub fn pour_star(cells: Cells, node: Node, ends: [EdgeEnd; 32], n: usize) -> Cel
     }
     let pa = node.area_a;
     let pb = node.area_b;
-    let start = starts(view, pa, pb);
+    let start = starts(looked, pa, pb);
     let on_a = node.on_a;
     let on_b = node.on_b;
     let mut g = grid_of(cells);

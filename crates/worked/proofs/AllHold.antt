@@ -32,7 +32,7 @@ use Rattle.verdict.specs.declared.Verdict.the-variants.{Open, NoForGood}
 use Rattle.verdict.specs.declared.pattern.Judged.the-variants as J
 use Rattle.verdict.proofs.LawsLoop.{given}
 use Rattle.worked.specs.Example.{Every, none, _and_, cells}
-use Rattle.worked.specs.Examples.{p1-to-p14, printed, edges}
+use Rattle.worked.specs.Examples.{p1-to-p14, printed, edges, collapsing}
 
 -- the verdict's two: a bad byte; and by what the letters can still come to
 p7 : Judges (J.Refused (BadByte 2)) (bytes "T*X******") (cells "FFFFFFFF2")
@@ -65,3 +65,9 @@ unfolding recordOf saidOf nodeOf nodeBody nodeAt pouredStar completedStar readEn
     orderOf count onJoined sideJoined halfJoined joinOf insertDir dirsFrom keep startOf walkFrom walkOf any missingLeft filledOf
     pourNode pourLabel pourLabels wroteOf writtenOf longBytes
 edges-hold = refl and refl and refl and refl and refl and none
+
+pub collapsing-holds : Every collapsing
+unfolding recordOf saidOf nodeOf nodeBody nodeAt pouredStar completedStar readEnds endAt dirAt labelAt sidesAt cellLetterOf
+    orderOf count onJoined sideJoined halfJoined joinOf insertDir dirsFrom keep startOf walkFrom walkOf any missingLeft filledOf
+    pourNode pourLabel pourLabels
+collapsing-holds = refl and refl and none

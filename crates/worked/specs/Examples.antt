@@ -1,5 +1,5 @@
 -- Document 01, "Examples to prove": P1 to P14; "The program's output .. here for P1"; and "At the edges: 32 ends pass, 33 are 5; a node
--- without ends passes; offset 0 in 12 bytes passes, offset 1 is 12."
+-- without ends passes; offset 0 in 12 bytes passes, offset 1 is 12." And request R-6: "one worked star of your own".
 use Prim.Native.Nat.{ℕ, zero, suc}
 use mathlib.Core.Bool.{true, false}
 use mathlib.Core.List.{List, [], _∷_, _++_}
@@ -148,3 +148,20 @@ edges =
     record-gives "FFFFFFFF2" (0 ∷ 7 ∷ 1 ∷ 1 ∷ 1 ∷ 1 ∷ 0 ∷ 0 ∷ 0 ∷ []) 9 "0FFFFFFF2" ∷
     report-gives "212101212" twelve 0 12 (0 ∷ 10 ∷ 1 ∷ bytes "212101212") ∷
     report-refused "212101212" twelve 1 NoRoom ∷ []
+
+-- request R-6's worked star: a node on A's boundary and inside B, inside A's area; one end on A's boundary, of the other A says
+-- nothing; both inside B. Ends E and S, and turned by ninety degrees N and E. Document 01's rule made 1FF1FFFF2 of the first, since S
+-- is the last in order, and FFF1FF1F2 of the second
+abbrev pub lineEnd : List ℕ → List ℕ → List ℕ → List ℕ
+lineEnd dx dy a = dx ++ dy ++ (0 ∷ []) ++ a ++ (1 ∷ 0 ∷ 0 ∷ [])
+
+abbrev pub onBoundary : List ℕ
+onBoundary = 2 ∷ 0 ∷ 0 ∷ []
+
+abbrev pub nodeOfTwo : List ℕ
+nodeOfTwo = 0 ∷ 37 ∷ 1 ∷ 1 ∷ 2 ∷ 1 ∷ 1 ∷ 0 ∷ 2 ∷ []
+
+abbrev pub collapsing : List Example
+collapsing =
+    record-gives "FFFFFFFF2" (nodeOfTwo ++ lineEnd two nought onBoundary ++ lineEnd nought minusTwo nothing) 39 "FFF1FF1F2" ∷
+    record-gives "FFFFFFFF2" (nodeOfTwo ++ lineEnd nought two onBoundary ++ lineEnd two nought nothing) 39 "FFF1FF1F2" ∷ []

@@ -111,6 +111,7 @@ pub fn main() -> i32 {
     matches::compare_bad_letters(&mut run);
     reports::compare_both_forms(&mut run);
     outlines::compare(&mut run);
+    stars::compare_turned(&mut run);
     run.answer_waiting();
     run.tally.report()
 }

@@ -1,11 +1,12 @@
 //! Judges one call on ends, a record, a report or an outline, and counts it.
 
-use super::tally::Tally;
+use super::tally::{Size, Tally};
 use crate::asked_star::{self, PlanSaid};
+use crate::listed::{self, Listed};
 use crate::ours::plans::{PlanCall, PlanOp, PlanReply};
 use crate::rule;
 use crate::rule_plan::{self, PlanOutcome, REACHABLE};
-use crate::rule_star::SINGLE_SIDE;
+use crate::rule_star::{END_BYTES, LABEL_BYTES, SINGLE_SIDE};
 use std::collections::BTreeMap;
 
 #[derive(Default)]
@@ -40,11 +41,17 @@ impl Numbers {
 }
 
 impl Tally {
-    /// Counts one call; prints it if two sides differ.
+    /// Counts one call; prints it if two sides differ in a way that isn't listed.
     pub fn take_plan(&mut self, kind: &str, call: &PlanCall, reply: &PlanReply) {
         let due = rule_plan::outcome(call);
         let said = asked_star::said(call);
-        let faults = faults(&due, said.as_ref(), reply);
+        let listed = said
+            .as_ref()
+            .and_then(|said| listed::plan_difference(call, &due, said));
+        if let (Some(listed), Some(said)) = (listed, &said) {
+            self.note_listed(listed, size(call), || describe_listed(call, &due, said));
+        }
+        let faults = faults(&due, said.as_ref(), reply, listed);
         if !faults.is_empty() {
             println!(
                 "DIFFERENCE ({kind}) {}: {}; {}",
@@ -65,6 +72,7 @@ impl Tally {
         count.calls += 1;
         count.refused += u64::from(number.is_some());
         count.not_asked += u64::from(!asked);
+        count.listed += u64::from(listed.is_some());
         count.unlisted += u64::from(!faults.is_empty());
     }
 }
@@ -77,14 +85,20 @@ fn agrees(said: &PlanSaid, word: u32, out: &[u8]) -> bool {
     }
 }
 
-fn faults(due: &PlanOutcome, said: Option<&PlanSaid>, reply: &PlanReply) -> Vec<&'static str> {
+fn faults(
+    due: &PlanOutcome,
+    said: Option<&PlanSaid>,
+    reply: &PlanReply,
+    listed: Option<Listed>,
+) -> Vec<&'static str> {
     let mut faults = Vec::new();
     let mut fault = |holds: bool, name| {
         if holds {
             faults.push(name);
         }
     };
-    if let Some(said) = said {
+    // What a listed difference is, the crate's whole answer was held to already.
+    if let (Some(said), None) = (said, listed) {
         let agree = agrees(said, due.word, &due.out);
         fault(!agree, "the crate's answer isn't document 01's");
         let agree = agrees(said, reply.word, &reply.out);
@@ -98,6 +112,49 @@ fn faults(due: &PlanOutcome, said: Option<&PlanSaid>, reply: &PlanReply) -> Vec<
     );
     fault(reply.stray, "a byte changed that the call may not write");
     faults
+}
+
+/// Few ends first, then few known positions, low cells and short directions. Of a record's bytes before its ends only the
+/// area positions are looked at: those of the node settle one cell.
+fn size(call: &PlanCall) -> Size {
+    let (areas, ends, cells) = match call.op {
+        PlanOp::Record => (call.bytes[6..8].to_vec(), &call.bytes[9..], &call.out[..]),
+        _ => (vec![call.a as u8, call.b as u8], &call.bytes[..], &[][..]),
+    };
+    let count = match call.op {
+        PlanOp::Record => usize::from(call.bytes[8]),
+        _ => ends.len() / END_BYTES,
+    };
+    let ends = &ends.as_chunks::<END_BYTES>().0[..count];
+    let codes = ends.iter().flat_map(|end| &end[8..]).chain(&areas);
+    let known = codes.filter(|code| **code != 0).count();
+    let cells = cells.iter().map(|cell| usize::from(*cell)).sum();
+    let part = |bytes: &[u8]| i32::from_be_bytes(bytes.try_into().expect("four bytes"));
+    let length = |end: &[u8; END_BYTES]| {
+        part(&end[..4]).unsigned_abs() as usize + part(&end[4..8]).unsigned_abs() as usize
+    };
+    let lengths = ends.iter().map(length).sum();
+    let bytes = [&call.bytes[..], &areas].concat();
+    ([count, known, cells, lengths], bytes)
+}
+
+/// A star's labels to the last one, a record's matrix.
+fn describe_listed(call: &PlanCall, due: &PlanOutcome, said: &PlanSaid) -> String {
+    let PlanSaid::Gave { out, .. } = said else {
+        unreachable!("the crate has answered")
+    };
+    let shown = |out: &[u8]| match call.op {
+        PlanOp::Star => hex(&out[..LABEL_BYTES * due.word as usize]),
+        _ => {
+            let cells = out.try_into().expect("nine cells");
+            rule::text(cells).map(char::from).iter().collect()
+        }
+    };
+    let (theirs, due) = (shown(out), shown(&due.out));
+    format!(
+        "{}; the crate: {theirs}; by the rule: {due}",
+        describe(call)
+    )
 }
 
 fn hex(bytes: &[u8]) -> String {

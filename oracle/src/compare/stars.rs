@@ -1,9 +1,13 @@
 //! Bundles and stars: labels joined, and labels completed.
 
 use super::Run;
-use crate::ours::plans::PlanCall;
-use crate::plan_pieces::{Labels, count, damage_ends, end, ends};
+use crate::ours::plans::{PlanCall, PlanOp};
+use crate::plan_pieces::{
+    ALL_DIRECTIONS, Labels, count, damage_ends, direction, end, ends, record, turned,
+};
+use crate::rule_star::END_BYTES;
 
+const START: [u8; 9] = [0, 0, 0, 0, 0, 0, 0, 0, 3];
 /// Area codes above 3; some are 0 to 3 in their low byte or low half.
 const BAD_AREAS: [u32; 7] = [4, 5, 255, 256, 258, 65_539, u32::MAX];
 
@@ -16,6 +20,49 @@ pub fn compare(run: &mut Run) {
     damaged(run);
     bad_areas(run);
     no_whole_ends(run);
+}
+
+/// Stars and records at each quarter turn: which bundle is the last goes by the turn, whether a geometry is collapsed
+/// doesn't.
+pub fn compare_turned(run: &mut Run) {
+    run.begin("star and record, two bundles, every code of A twice, each area position, each turn");
+    for first in every_half() {
+        for second in every_half() {
+            for area in 0..4 {
+                let ends = [end((1, 0), &first), end((0, 1), &second)].concat();
+                ask_turned(run, ends, [area, 0]);
+            }
+        }
+    }
+    run.begin("star and record, random, mostly lines, each turn");
+    for _ in 0..run.times(20_000) {
+        let labels = Labels {
+            areas: run.random.pick(&[0, 1, 3]),
+            nones: run.random.pick(&[2, 5]),
+            paired: run.random.below(4) != 0,
+        };
+        let kind = run.random.pick(&ALL_DIRECTIONS);
+        let mut ends = Vec::new();
+        for _ in 0..2 + run.random.below(5) {
+            let direction = direction(&mut run.random, kind);
+            ends.extend(end(direction, &labels.label(&mut run.random)));
+        }
+        let areas = [area(run) as u8, area(run) as u8];
+        ask_turned(run, ends, areas);
+    }
+}
+
+/// A star and its record on the start matrix, at each quarter turn.
+fn ask_turned(run: &mut Run, mut ends: Vec<u8>, areas: [u8; 2]) {
+    let [a, b] = areas;
+    let node = [0, 1].map(|_| 1 + run.random.below(3) as u8);
+    for _ in 0..4 {
+        let head = [node[0], node[1], a, b, (ends.len() / END_BYTES) as u8];
+        let bytes = record(1, &[&head[..], &ends].concat());
+        run.ask_plan(PlanCall::star(ends.clone(), a.into(), b.into()));
+        run.ask_plan(PlanCall::on_cells(PlanOp::Record, START, bytes));
+        ends = turned(&ends);
+    }
 }
 
 fn area(run: &mut Run) -> u32 {

@@ -7,8 +7,8 @@ use crate::ours::{Call, Op, Reply};
 use crate::rule::{self, Outcome};
 use std::collections::BTreeMap;
 
-/// Small inputs come first by this: see `size`.
-type Size = (u32, usize, u32, [u8; 9], Vec<u8>);
+/// Small inputs come first by this, the numbers before the bytes: see `size`, here and in plan_tally.rs.
+pub(super) type Size = ([usize; 4], Vec<u8>);
 
 /// How often a listed difference was met, and its smallest input.
 struct Met {
@@ -23,7 +23,7 @@ pub(super) struct Count {
     yes: u64,
     pub(super) refused: u64,
     pub(super) not_asked: u64,
-    listed: u64,
+    pub(super) listed: u64,
     pub(super) unlisted: u64,
 }
 
@@ -56,7 +56,9 @@ impl Tally {
             .as_ref()
             .and_then(|said| listed::difference(call, &due, said));
         if let (Some(listed), Some(said)) = (listed, &said) {
-            self.note_listed(listed, call, &due, said);
+            self.note_listed(listed, size(call, &due), || {
+                describe_listed(listed, call, &due, said)
+            });
         }
         self.note_above_3(call, &due, reply);
 
@@ -83,17 +85,21 @@ impl Tally {
         count.unlisted += u64::from(!faults.is_empty());
     }
 
-    fn note_listed(&mut self, listed: Listed, call: &Call, due: &Outcome, said: &Said) {
-        let smallest = size(call, due);
+    pub(super) fn note_listed(
+        &mut self,
+        listed: Listed,
+        size: Size,
+        describe: impl Fn() -> String,
+    ) {
         let met = self.listed.entry(listed).or_insert_with(|| Met {
             count: 0,
-            smallest: smallest.clone(),
-            example: describe_listed(listed, call, due, said),
+            smallest: size.clone(),
+            example: describe(),
         });
         met.count += 1;
-        if smallest < met.smallest {
-            met.example = describe_listed(listed, call, due, said);
-            met.smallest = smallest;
+        if size < met.smallest {
+            met.example = describe();
+            met.smallest = size;
         }
     }
 
@@ -220,10 +226,11 @@ fn above_3(cells: &[u8; 9]) -> bool {
 
 /// Few and low cells first, then texts with few letters other than F (patterns: other than `*`), then early places.
 fn size(call: &Call, due: &Outcome) -> Size {
-    let sum = call.cells.iter().map(|cell| u32::from(*cell)).sum();
+    let sum = call.cells.iter().map(|cell| usize::from(*cell)).sum();
     let plain = if call.op == Op::Matches { b'*' } else { b'F' };
     let others = call.text().iter().filter(|byte| **byte != plain).count();
-    (sum, others, due.word, call.cells, call.text().to_vec())
+    let bytes = [&call.cells[..], call.text()].concat();
+    ([sum, others, due.word as usize, 0], bytes)
 }
 
 /// A matrix as text, if all its numbers have a letter.
@@ -261,6 +268,9 @@ fn describe_listed(listed: Listed, call: &Call, due: &Outcome, said: &Said) -> S
         Listed::WalksPast => {
             let place = due.word - rule::BAD_BYTE;
             format!("{call}; the crate: no; by the rule: refusal 11 at {place}")
+        }
+        Listed::LastDecidesLabels | Listed::LastDecidesMatrix => {
+            unreachable!("calls on a matrix meet none of these")
         }
     }
 }

@@ -3,17 +3,16 @@
 use mathlib.Core.Bool.{Bool, cond, not, _&&_, _||_}
 use mathlib.Core.List.{List, [], _∷_}
 use Rattle.de9im.specs.declared.«coordinate_position».Position.{Position}
-use Rattle.de9im.specs.declared.«coordinate_position».Position.the-variants.{None}
+use Rattle.de9im.specs.declared.«coordinate_position».Position.the-variants.{None, OnBoundary}
 use Rattle.star.specs.declared.«topology_position».Sides.{Sides}
 use Rattle.star.specs.declared.label.Geometry.{Geometry}
 use Rattle.star.specs.declared.label.Geometry.the-variants.{A, B}
 use Rattle.star.specs.declared.label.Label.{Label}
 use Rattle.star.specs.declared.«edge_end_bundle_star».Current.{Current}
-use Rattle.star.specs.declared.look.View.{View}
 use Rattle.star.specs.declared.look.Found.{Found}
 use Rattle.star.specs.declared.look.Looked.{Looked}
-use Rattle.star.specs.Label.{isNone, orElse}
-use Rattle.star.specs.Completing.{startOf, rightAlone, any, lastOf, collapses, restOf}
+use Rattle.star.specs.Label.{isNone, isPos, orElse}
+use Rattle.star.specs.Completing.{startOf, rightAlone, any, collapsed, restOf}
 
 -- a list changed by a walk with a state
 unfoldable pub scan : {S X : Type 0} → (S → X → X) → (S → X → S) → S → List X → List X
@@ -51,7 +50,7 @@ completeWalk = scan completeLabel completeCurrent
 
 -- what a look over the labels finds for one geometry, and for both
 unfoldable pub foundOf : Geometry → List Label → Found
-foundOf g ls = record { start = startOf g ls; alone = any (rightAlone g) ls }
+foundOf g ls = record { start = startOf g ls; alone = any (rightAlone g) ls; collapsed = collapsed g ls }
 
 unfoldable pub lookedOf : List Label → Looked
 lookedOf ls = record { a = foundOf A ls; b = foundOf B ls }
@@ -62,6 +61,7 @@ seenOf f area s =
     record {
       start = orElse (cond area (s .left) None) (f .start);
       alone = f .alone || area && (not (isNone (s .right)) && isNone (s .left));
+      collapsed = f .collapsed || not area && isPos (s .on) OnBoundary;
     }
 
 abbrev pub lookLabel : Looked → Label → Looked
@@ -71,14 +71,10 @@ lookLabel w l = record { a = seenOf (w .a) (l .area) (l .a); b = seenOf (w .b) (
 abbrev pub foundMissing : Found → Bool
 foundMissing f = not (isNone (f .start)) && f .alone
 
--- what completing needs before its walk
-abbrev pub viewOf : List Label → View
-viewOf ls = record { looked = lookedOf ls; last = lastOf ls }
-
 -- where the walk starts: where the look says or, where no area bundle has a left, at what a none becomes
-abbrev pub startsFrom : View → Position → Position → Current
-startsFrom h pa pb =
+abbrev pub startsFrom : Looked → Position → Position → Current
+startsFrom w pa pb =
     record {
-      a = orElse (h .looked .a .start) (restOf (collapses A (h .last)) pa);
-      b = orElse (h .looked .b .start) (restOf (collapses B (h .last)) pb);
+      a = orElse (w .a .start) (restOf (w .a .collapsed) pa);
+      b = orElse (w .b .start) (restOf (w .b .collapsed) pb);
     }

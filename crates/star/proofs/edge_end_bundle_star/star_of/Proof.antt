@@ -8,11 +8,11 @@ use lib.ListN.{length, take, length-take}
 use Rattle.star.specs.Calls.{completedStar}
 use Rattle.star.specs.Completing.{missingLeft}
 use Rattle.star.specs.Star.{joinedOf}
-use Rattle.star.specs.Inner.Walking.{viewOf}
+use Rattle.star.specs.Inner.Walking.{lookedOf}
 use Rattle.star.proofs.LawsComplete.{completed-walk}
 use Rattle.star.proofs.LawsFew.{completed-length}
 use Rattle.star.proofs.LawsGather.{gathered-labels, gathered-count}
-use Rattle.star.proofs.LawsStar.{view-missing}
+use Rattle.star.proofs.LawsStar.{looked-missing}
 use Rattle.star.proofs.edge_end_bundle_star.star_of.Statement.{statement}
 use Rattle.star.proofs.edge_end_bundle_star.star_of.Tie as tie
 
@@ -25,8 +25,8 @@ returns c =
     let es = take (s .args .n) (s .args .ends) in
     let small : length es < 1024 = omega (arith, s .pre .few, length-take (s .args .n) (s .args .ends)) in
     let labels = gathered-labels es small (g .gather .result) _ _ _ _ (g .gather .ensures) in
-    let e : v .result ≡ viewOf (joinedOf es) = v .ensures ∙ ap viewOf labels in
-    let m : missingLeft (joinedOf es) ≡ true = sym (view-missing (joinedOf es) (v .result) e) ∙
+    let e : v .result ≡ lookedOf (joinedOf es) = v .ensures ∙ ap lookedOf labels in
+    let m : missingLeft (joinedOf es) ≡ true = sym (looked-missing (joinedOf es) (v .result) e) ∙
     sym (c .before .before .missing .ensures) ∙ c .before .if1 .taken in
     c .unlabeled .ensures ∙ rw m refl
 
@@ -40,8 +40,8 @@ returns-2 c =
     let small : length es < 1024 = omega (arith, s .pre .few, length-take (s .args .n) (s .args .ends)) in
     let labels = gathered-labels es small (g .gather .result) _ _ _ _ (g .gather .ensures) in
     let count = gathered-count es small (g .gather .result) _ _ _ _ (g .gather .ensures) in
-    let e : v .result ≡ viewOf (joinedOf es) = v .ensures ∙ ap viewOf labels in
-    let m : missingLeft (joinedOf es) ≡ false = sym (view-missing (joinedOf es) (v .result) e) ∙
+    let e : v .result ≡ lookedOf (joinedOf es) = v .ensures ∙ ap lookedOf labels in
+    let m : missingLeft (joinedOf es) ≡ false = sym (looked-missing (joinedOf es) (v .result) e) ∙
     sym (c .before .before .before .before .before .before .before .missing .ensures) ∙
     c .before .before .before .before .before .before .if1 .left in
     let done = completed-walk (s .args .area-a) (s .args .area-b) (joinedOf es) m in

@@ -1,37 +1,35 @@
--- The loop keeps what the first i labels show, and the last of them; one label more is `looked-snoc` and `last-snoc`.
+-- The loop keeps what the first i labels show; one label more is `looked-snoc`.
 use borrow.Author.Needs.{needs}
 use native.Mathlib.Omega.{arith}
 use Prim.Native.Nat.{_≤_, _-_}
 use mathlib.Core.Path.{_≡_, refl, sym}
 use lib.ListN.{getD}
-use Rattle.star.specs.Completing.{lastOf}
 use Rattle.star.specs.Inner.Gather.{placedLabels, placedLabel}
 use Rattle.star.specs.Inner.Walking.{lookedOf}
 use Rattle.star.proofs.LawsGather.{labels-more}
-use Rattle.star.proofs.LawsWalk.{looked-snoc, last-snoc}
+use Rattle.star.proofs.LawsWalk.{looked-snoc}
 use Rattle.star.proofs.look.look.Statement.{statement}
 use Rattle.star.proofs.look.look.Tie as tie
 
 abbrev Inv-loop : tie.InvT-loop
-Inv-loop order areas a b n w₀ last₀ i₀ w last i = (i ≤ n) × (w ≡ lookedOf (placedLabels order areas a b i)) × (last ≡ lastOf
-    (placedLabels order areas a b i))
+Inv-loop order areas a b n w₀ i₀ w i = (i ≤ n) × (w ≡ lookedOf (placedLabels order areas a b i))
 
 abbrev μ-loop : tie.MeasureT-loop
-μ-loop order areas a b n w₀ last₀ i₀ w last i = n - i
+μ-loop order areas a b n w₀ i₀ w i = n - i
 
 loop-holds : tie.Need-loop-holds Inv-loop μ-loop
-loop-holds c = (omega arith, c .before .nothing .ensures, c .blank .ensures)
+loop-holds c = (omega arith, c .nothing .ensures)
 
 bundle-label-requires : tie.Need-bundle-label-requires Inv-loop μ-loop
 bundle-label-requires c κs =
-    let p = c .before .before .before .before .pre in
+    let p = c .before .before .before .pre in
     let t = c .loop-test .taken in
     (omega (arith, t, p .few), p .places (c .before .loop .i) t)
 
 loop-again : tie.Need-loop-again Inv-loop μ-loop
 loop-again c =
     let l = c .before .before .before .loop in
-    let b = c .before .before .before .before .before .before in
+    let b = c .before .before .before .before .before in
     let s = b .args in
     let t = c .before .before .loop-test .taken in
     let more = labels-more (s .order .now) (s .areas .now) (s .a .now) (s .b .now) (l .i) (omega (arith, t, b .pre .whole, b .pre .few)) in
@@ -39,14 +37,13 @@ loop-again c =
     let x = placedLabel (s .areas .now) (s .a .now) (s .b .now) (getD (s .order .now) (l .i) 0) in (
       omega arith,
       rw (c .look-label .ensures, c .before .bundle-label .ensures, l .inv .1, more) (sym (looked-snoc xs x)),
-      rw (c .before .bundle-label .ensures, more) (sym (last-snoc xs x)),
     )
 
 returns : tie.Need-returns Inv-loop μ-loop
 returns c =
     let l = c .before .loop in
-    let e : c .before .before .before .before .args .n ≡ l .i = omega arith in
-    rw (e, l .inv .1, l .inv .2) refl
+    let e : c .before .before .before .args .n ≡ l .i = omega arith in
+    rw (e, l .inv .1) refl
 
 pub look-spec : {M : Type 1} → statement M
 look-spec =
@@ -54,7 +51,6 @@ look-spec =
     (tie.spec
     Inv-loop
     μ-loop
-    (λ c κs. search needs)
     (λ c κs. search needs)
     loop-holds
     bundle-label-requires

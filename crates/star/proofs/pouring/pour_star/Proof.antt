@@ -8,11 +8,11 @@ use lib.ListN.{length, take, length-take}
 use Rattle.star.specs.Calls.{completedStar, pouredStar}
 use Rattle.star.specs.Completing.{missingLeft, completedOf}
 use Rattle.star.specs.Star.{joinedOf}
-use Rattle.star.specs.Inner.Walking.{viewOf}
+use Rattle.star.specs.Inner.Walking.{lookedOf}
 use Rattle.star.proofs.LawsComplete.{completed-walk}
 use Rattle.star.proofs.LawsGather.{gathered-labels}
 use Rattle.star.proofs.LawsGrid.{grid-star}
-use Rattle.star.proofs.LawsStar.{view-missing}
+use Rattle.star.proofs.LawsStar.{looked-missing}
 use Rattle.star.proofs.pouring.pour_star.Statement.{statement}
 use Rattle.star.proofs.pouring.pour_star.Tie as tie
 
@@ -25,8 +25,8 @@ returns c =
     let es = take (s .args .n) (s .args .ends) in
     let small : length es < 1024 = omega (arith, s .pre .few, length-take (s .args .n) (s .args .ends)) in
     let labels = gathered-labels es small (g .gather .result) _ _ _ _ (g .gather .ensures) in
-    let e : v .result ≡ viewOf (joinedOf es) = v .ensures ∙ ap viewOf labels in
-    let m : missingLeft (joinedOf es) ≡ true = sym (view-missing (joinedOf es) (v .result) e) ∙ sym (c .before .missing .ensures) ∙
+    let e : v .result ≡ lookedOf (joinedOf es) = v .ensures ∙ ap lookedOf labels in
+    let m : missingLeft (joinedOf es) ≡ true = sym (looked-missing (joinedOf es) (v .result) e) ∙ sym (c .before .missing .ensures) ∙
     c .if1 .taken in
     rw m refl
 
@@ -40,8 +40,8 @@ returns-2 c =
     let es = take (s .args .n) (s .args .ends) in
     let small : length es < 1024 = omega (arith, s .pre .few, length-take (s .args .n) (s .args .ends)) in
     let labels = gathered-labels es small (g .gather .result) _ _ _ _ (g .gather .ensures) in
-    let e : v .result ≡ viewOf (joinedOf es) = v .ensures ∙ ap viewOf labels in
-    let m : missingLeft (joinedOf es) ≡ false = sym (view-missing (joinedOf es) (v .result) e) ∙
+    let e : v .result ≡ lookedOf (joinedOf es) = v .ensures ∙ ap lookedOf labels in
+    let m : missingLeft (joinedOf es) ≡ false = sym (looked-missing (joinedOf es) (v .result) e) ∙
     sym (k .before .before .missing .ensures) ∙ k .before .if1 .left in
     let n = s .args .node in
     rw (
