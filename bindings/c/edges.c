@@ -49,7 +49,9 @@ typedef struct {
     const uint8_t *bytes;
     const int32_t *xy;
     uint8_t *labels, *buffer;
-    size_t count; /* of bytes; of an outline, of numbers */
+    int32_t *corners; /* read from a text, with its answers */
+    uint64_t *answer;
+    size_t count, room; /* of bytes, of the buffer's; of an outline or a shape, the count is of numbers */
 } lendings;
 
 typedef uint32_t call(const lendings *l);
@@ -85,11 +87,16 @@ static uint32_t convert(const lendings *l) {
 static uint32_t convert_short(const lendings *l) {
     return misonkandi_convert_report(l->bytes, l->count, l->labels, 224, 224 - MISONKANDI_REPORT_BYTES);
 }
+static uint32_t read_wkt(const lendings *l) { return misonkandi_read_wkt(l->bytes, l->count, l->corners, l->answer); }
+static uint32_t write_wkt(const lendings *l) {
+    return misonkandi_write_wkt(MISONKANDI_SHAPE_POLYGON, l->xy, l->count, l->buffer, l->room, 0);
+}
 
-/* The bytes that a call is given: a text, a predicate's name, ends, a record of a node or of an edge, a report, long or
- * short. Or the numbers of an outline. */
+/* The bytes that a call is given: a text, a predicate's name, ends, a record of a node or of an edge, a shape's text, a
+ * report, long or short. Or the numbers of an outline or of a shape. */
 enum { NO_ROW = 8388607 }; /* MISONKANDI_NO_SUCH_ROW, read as a refusal */
-enum given { TEXT, NAME, ENDS, NODE, EDGE, OUTLINE, REPORT, SHORT_REPORT };
+enum given { TEXT, NAME, ENDS, NODE, EDGE, OUTLINE, SHAPE, WKT, REPORT, SHORT_REPORT };
+enum { MOST_GIVEN = MISONKANDI_MOST_WKT_BYTES };
 
 static const struct {
     const char *name;
@@ -122,6 +129,8 @@ static const struct {
     {"write_short", write_short, SHORT_REPORT, 12, 0},
     {"convert", convert, REPORT, 1, 0},
     {"convert, short", convert_short, SHORT_REPORT, 1, 0},
+    {"read_wkt", read_wkt, WKT, 19, 0},
+    {"write_wkt", write_wkt, SHAPE, 16, 0},
 };
 enum { CALLS = sizeof calls / sizeof calls[0] };
 
@@ -137,18 +146,34 @@ static void write_ends(uint8_t *to) {
     }
 }
 
-/* A saw of 64 corners: 63 along its teeth, each one high, and one far below. */
-enum { MOST_NUMBERS = 2 * MISONKANDI_MOST_CORNERS };
-static int32_t saw[MOST_NUMBERS];
+/* A saw of 64 corners: 63 along its teeth, each one high, and one far below. And 64 times the corner that takes the
+ * most bytes. */
+enum { MOST_NUMBERS = 2 * MISONKANDI_MOST_CORNERS, MOST = 1000000000 };
+static int32_t saw[MOST_NUMBERS], longest[MOST_NUMBERS];
 
-static void write_saw(void) {
+static void write_corners(void) {
     int32_t x;
     for (x = 0; x < 63; x++) saw[2 * x] = x, saw[2 * x + 1] = x % 2;
     saw[126] = 31, saw[127] = -10;
+    for (x = 0; x < MOST_NUMBERS; x++) longest[x] = -MOST;
 }
 
-/* The bytes of one kind at their full length; an outline's numbers are the saw's, and no bytes. */
-static size_t write_given(enum given given, uint8_t to[MISONKANDI_MOST_RECORD_BYTES]) {
+static const int32_t *numbers_of(enum given given) { return given == SHAPE ? longest : saw; }
+
+/* The longest text: a ring of those corners, the first one again at its end. */
+static size_t write_longest(uint8_t to[MOST_GIVEN]) {
+    static const char head[] = "POLYGON ((", pair[] = "-1000000000 -1000000000, ";
+    size_t at = strlen(head);
+    int k;
+    memcpy(to, head, at);
+    for (k = 0; k <= MISONKANDI_MOST_CORNERS; k++, at += strlen(pair))
+        memcpy(to + at, pair, k < MISONKANDI_MOST_CORNERS ? strlen(pair) : strlen(pair) - 2);
+    memcpy(to + at - 2, "))", 2); /* in place of the last comma and space */
+    return at;
+}
+
+/* The bytes of one kind at their full length; an outline's and a shape's are numbers, and no bytes. */
+static size_t write_given(enum given given, uint8_t to[MOST_GIVEN]) {
     static const uint8_t node[9] = {1, 231, 1, MISONKANDI_NODE, 2, 3, 1, 0, 32};
     static const uint8_t edge[11] = {0, 9, 1, MISONKANDI_EDGE, MISONKANDI_AREA, 2, 1, 3, 2, 3, 1};
     switch (given) {
@@ -157,7 +182,8 @@ static size_t write_given(enum given given, uint8_t to[MISONKANDI_MOST_RECORD_BY
     case ENDS: write_ends(to); return 480;
     case NODE: memcpy(to, node, 9); write_ends(to + 9); return 489;
     case EDGE: memcpy(to, edge, 11); return 11;
-    case OUTLINE: return MOST_NUMBERS;
+    case OUTLINE: case SHAPE: return MOST_NUMBERS;
+    case WKT: return write_longest(to);
     case REPORT: memcpy(to, "\0\12\1" "210F21012", 12); return 12;
     default: memcpy(to, "\0\4\2" "\3\223\233", 6); return 6; /* 210F21012 */
     }
@@ -168,25 +194,31 @@ static size_t write_given(enum given given, uint8_t to[MISONKANDI_MOST_RECORD_BY
 static const uint8_t start[9] = MISONKANDI_START;
 
 /* One call with its bytes cut to a count, all that it is lent at the end of a room or at its beginning. */
-static uint32_t guarded_call(int k, const uint8_t *bytes, size_t count, int at_end, const pages room[5]) {
-    static const uint8_t nothing[MISONKANDI_MOST_RECORD_BYTES];
+enum { ROOMS = 7 };
+static uint32_t guarded_call(int k, const uint8_t *bytes, size_t count, int at_end, const pages room[ROOMS]) {
+    static const uint8_t nothing[MOST_GIVEN];
+    enum given given = calls[k].given;
     lendings l;
     l.cells = lent(room[0], start, 9, at_end);
-    l.text = lent(room[1], nothing, calls[k].given == ENDS ? 7 : 9, at_end);
+    l.text = lent(room[1], nothing, given == ENDS ? 7 : 9, at_end);
     l.labels = lent(room[2], nothing, 224, at_end);
-    if (calls[k].given == OUTLINE) l.xy = (const int32_t *)lent(room[3], saw, count * sizeof saw[0], at_end);
+    if (given == OUTLINE || given == SHAPE)
+        l.xy = (const int32_t *)lent(room[3], numbers_of(given), count * sizeof saw[0], at_end);
     else l.bytes = lent(room[3], bytes, count, at_end);
-    l.buffer = lent(room[4], nothing, count, at_end);
+    l.room = given == SHAPE ? MISONKANDI_MOST_WKT_BYTES : count;
+    l.buffer = lent(room[4], nothing, l.room, at_end);
+    l.corners = (int32_t *)lent(room[5], nothing, sizeof saw, at_end);
+    l.answer = (uint64_t *)lent(room[6], nothing, 3 * sizeof *l.answer, at_end);
     l.count = count;
     return calls[k].call(&l);
 }
 
 static void all_counts(void) {
-    pages room[5];
-    uint8_t bytes[MISONKANDI_MOST_RECORD_BYTES];
+    pages room[ROOMS];
+    uint8_t bytes[MOST_GIVEN];
     size_t count;
     int k;
-    for (k = 0; k < 5; k++) room[k] = guarded();
+    for (k = 0; k < ROOMS; k++) room[k] = guarded();
     for (k = 0; k < CALLS; k++) {
         size_t whole = write_given(calls[k].given, bytes);
         for (count = 0; count <= whole; count++) {
@@ -195,7 +227,7 @@ static void all_counts(void) {
             if (count == whole) same(calls[k].name, MISONKANDI_REFUSED(word), 0);
         }
     }
-    for (k = 0; k < 5; k++) munmap(room[k].start - ROOM, 3 * ROOM);
+    for (k = 0; k < ROOMS; k++) munmap(room[k].start - ROOM, 3 * ROOM);
 }
 
 /* NULL and no bytes: the answer, and the cells of a refused call as they were. */
@@ -203,11 +235,14 @@ static void nulls(void) {
     int k;
     for (k = 0; k < CALLS; k++) {
         uint8_t cells[9] = {9, 8, 7, 6, 5, 4, 255, 0, 3}, before[9], text[9], labels[224];
+        int32_t corners[MOST_NUMBERS];
+        uint64_t answer[3];
         lendings l;
         uint32_t word;
         memcpy(before, cells, 9);
         l.cells = cells, l.text = text, l.labels = labels;
-        l.bytes = NULL, l.xy = NULL, l.buffer = NULL, l.count = 0;
+        l.corners = corners, l.answer = answer;
+        l.bytes = NULL, l.xy = NULL, l.buffer = NULL, l.count = 0, l.room = 0;
         word = calls[k].call(&l);
         same(calls[k].name, MISONKANDI_REFUSED(word) ? MISONKANDI_NUMBER(word) : 0, calls[k].none);
         if (calls[k].none != 0) same(calls[k].name, memcmp(cells, before, 9) == 0, 1);
@@ -239,7 +274,7 @@ static void numbers(void) {
         {17, 0, MISONKANDI_REFUSAL_LABEL_KIND},     {9, 128, MISONKANDI_REFUSAL_DIRECTION},
         {19, 0, MISONKANDI_REFUSAL_MISSING_LEFT},
     };
-    uint8_t cells[9] = MISONKANDI_START, bytes[33 * MISONKANDI_END_BYTES], labels[224];
+    uint8_t cells[9] = MISONKANDI_START, bytes[MOST_GIVEN], labels[224];
     size_t k;
     for (k = 0; k < sizeof damages / sizeof damages[0]; k++) {
         size_t whole = write_given(NODE, bytes);
@@ -287,7 +322,7 @@ static void damaged_reports(void) {
     };
     size_t k;
     for (k = 0; k < sizeof damages / sizeof damages[0]; k++) {
-        uint8_t cells[9] = MISONKANDI_START, bytes[MISONKANDI_MOST_RECORD_BYTES];
+        uint8_t cells[9] = MISONKANDI_START, bytes[MOST_GIVEN];
         size_t whole = write_given(damages[k].given, bytes);
         bytes[damages[k].byte] = damages[k].to;
         refused(misonkandi_read_report(cells, bytes, whole), damages[k].number, damages[k].place);
@@ -299,7 +334,7 @@ static void damaged_reports(void) {
 /* One form of a matrix's report, written from its cells and converted from the other form, into a buffer of so many
  * bytes from one offset: the same bytes and every other one as it was, or refusal 12 and no byte written. */
 static void one_offset(enum given form, size_t room, size_t offset) {
-    uint8_t cells[9], report[MISONKANDI_MOST_RECORD_BYTES], other[MISONKANDI_MOST_RECORD_BYTES];
+    uint8_t cells[9], report[MOST_GIVEN], other[MOST_GIVEN];
     uint8_t meant[32], written[32], converted[32];
     size_t whole = write_given(form, report), read = write_given(form == REPORT ? SHORT_REPORT : REPORT, other);
     uint32_t word = 0x80000000u + 256 * MISONKANDI_REFUSAL_NO_ROOM;
@@ -385,7 +420,6 @@ static uint32_t located(const int32_t *xy, size_t numbers, int32_t x, int32_t y)
 
 static void outlines(void) {
     static const int32_t notched[] = {0, 0, 10, 0, 10, 6, 7, 6, 5, 3, 3, 6, 0, 6}, tie[] = {0, 0, 4, 4, 4, 0, 0, 4};
-    enum { MOST = 1000000000 };
     static const int32_t slanted[] = {-MOST, -MOST, MOST, -MOST, MOST, MOST - 1};
     int32_t x;
     refused_outlines();
@@ -406,20 +440,131 @@ static void outlines(void) {
     for (x = 1; x < 62; x++) SAME(located(saw, MOST_NUMBERS, x, 0), x % 2 == 0 ? ON : IN);
 }
 
+/* ---- Shapes as text ---- */
+
+/* A text that is refused: its word, and what it was lent as it was but for the whole place. */
+static void refused_text(const char *text, size_t count, unsigned number, size_t place) {
+    int32_t xy[MOST_NUMBERS], before[MOST_NUMBERS];
+    uint64_t answer[3] = {9, 9, 9};
+    memset(xy, 9, sizeof xy), memset(before, 9, sizeof before);
+    refused(misonkandi_read_wkt(bytes_of(text), count, xy, answer), number, place < 255 ? (unsigned)place : 255);
+    SAME(memcmp(xy, before, sizeof xy), 0);
+    SAME(answer[0], 9), SAME(answer[1], 9), SAME(answer[2], place);
+}
+
+/* The examples of request R-9, the order of the numbers, and places beyond what a word has room for. */
+static void refused_texts(void) {
+    static const struct { const char *text; unsigned number; size_t place; } texts[] = {
+        {"", MISONKANDI_REFUSAL_BAD_TEXT, 0},
+        {"LINESTRING()", MISONKANDI_REFUSAL_BAD_TEXT, 11},
+        {"POINT(1 2,3 4)", MISONKANDI_REFUSAL_BAD_TEXT, 9},
+        {" POINT(1 2)", MISONKANDI_REFUSAL_BAD_TEXT, 0},
+        {"POINT(1 2) ", MISONKANDI_REFUSAL_BAD_TEXT, 10},
+        {"POINT(1 2", MISONKANDI_REFUSAL_BAD_TEXT, 9},
+        {"POINT(- 1 2)", MISONKANDI_REFUSAL_BAD_TEXT, 7},
+        {"POINT EMPTY", MISONKANDI_REFUSAL_BAD_TEXT, 6},
+        {"POLYGON((0 0,4 0,4 4,0 0),(1 1,2 1,2 2,1 1))", MISONKANDI_REFUSAL_BAD_TEXT, 25},
+        {"LINESTRING(2000000000 0", MISONKANDI_REFUSAL_BAD_TEXT, 23},
+        {"LINESTRING(1 2)", MISONKANDI_REFUSAL_CORNER_COUNT, 0},
+        {"POLYGON((2000000000 0,4 0,4 4))", MISONKANDI_REFUSAL_CORNER_COUNT, 0},
+        {"POINT(0 -1000000001)", MISONKANDI_REFUSAL_OUT_OF_RANGE, 0},
+        {"POINT(18446744073709551617 0)", MISONKANDI_REFUSAL_OUT_OF_RANGE, 0},
+        {"POLYGON((0 0,4 0,2000000000 4,0 1))", MISONKANDI_REFUSAL_OUT_OF_RANGE, 0},
+        {"POLYGON((0 0,4 0,4 4,0 1))", MISONKANDI_REFUSAL_RING_OPEN, 0},
+    };
+    uint8_t bytes[MOST_GIVEN];
+    size_t k, whole = write_given(WKT, bytes);
+    for (k = 0; k < sizeof texts / sizeof texts[0]; k++)
+        refused_text(texts[k].text, strlen(texts[k].text), texts[k].number, texts[k].place);
+    for (k = 0; k < whole; k++) { /* cut off anywhere, and with a byte that no text has at its end */
+        uint8_t kept = bytes[k];
+        refused_text((const char *)bytes, k, MISONKANDI_REFUSAL_BAD_TEXT, k);
+        bytes[k] = '#';
+        refused_text((const char *)bytes, whole, MISONKANDI_REFUSAL_BAD_TEXT, k);
+        bytes[k] = kept;
+    }
+}
+
+/* A text is read as these corners, every number after them as it was, and they are written as another text, every byte
+ * around it as it was; with a byte of room too few, nothing is. */
+static void read_and_written(const char *text, const char *other, unsigned kind, size_t corners, const int32_t *meant) {
+    int32_t xy[MOST_NUMBERS], rest[MOST_NUMBERS];
+    uint64_t answer[3] = {9, 9, 9};
+    uint8_t buffer[MOST_GIVEN + 2], around[MOST_GIVEN + 2];
+    size_t count = strlen(other);
+    memset(xy, 9, sizeof xy), memset(rest, 9, sizeof rest);
+    memcpy(rest, meant, 2 * corners * sizeof *meant);
+    SAME(misonkandi_read_wkt(bytes_of(text), strlen(text), xy, answer), 0);
+    SAME(memcmp(xy, rest, sizeof xy), 0);
+    SAME(answer[0], kind), SAME(answer[1], corners), SAME(answer[2], 0);
+    memset(buffer, 7, sizeof buffer), memset(around, 7, sizeof around);
+    refused(misonkandi_write_wkt(kind, xy, 2 * corners, buffer, count, 1), MISONKANDI_REFUSAL_NO_ROOM, 0);
+    refused(misonkandi_write_wkt(kind, xy, 2 * corners, buffer, count, (size_t)-1), MISONKANDI_REFUSAL_NO_ROOM, 0);
+    SAME(memcmp(buffer, around, sizeof buffer), 0);
+    memcpy(around + 1, other, count);
+    SAME(misonkandi_write_wkt(kind, xy, 2 * corners, buffer, count + 1, 1), count);
+    SAME(memcmp(buffer, around, sizeof buffer), 0);
+}
+
+/* What is refused where a shape is written, and in which order: the buffer has no room. */
+static void refused_shapes(void) {
+    static const unsigned most[] = {0, 1, 64, 64, 0}, least[] = {1, 1, 2, 3, 1};
+    static const int32_t far[] = {MOST + 1, -MOST - 1, INT32_MAX, INT32_MIN};
+    int32_t xy[MOST_NUMBERS + 4] = {0};
+    uint32_t kind;
+    size_t count, k;
+    for (kind = 0; kind <= 4; kind++)
+        for (count = 0; count <= MOST_NUMBERS + 4; count++) {
+            int good = count % 2 == 0 && count / 2 >= least[kind] && count / 2 <= most[kind];
+            unsigned number = good ? MISONKANDI_REFUSAL_NO_ROOM : MISONKANDI_REFUSAL_CORNER_COUNT;
+            refused(misonkandi_write_wkt(kind, xy, count, NULL, 0, 0), number, 0);
+            for (k = 0; k < 4 && count > 0; k++) {
+                number = good ? MISONKANDI_REFUSAL_OUT_OF_RANGE : MISONKANDI_REFUSAL_CORNER_COUNT;
+                xy[count - 1] = far[k];
+                refused(misonkandi_write_wkt(kind, xy, count, NULL, 0, 0), number, 0);
+                xy[count - 1] = 0;
+            }
+        }
+    refused(misonkandi_write_wkt(0x80000001u, xy, 2, NULL, 0, 0), MISONKANDI_REFUSAL_CORNER_COUNT, 0);
+}
+
+static void shapes(void) {
+    static const int32_t pair[] = {7, -12, 0, 5}, ring[] = {0, 0, 10, 0, 10, 6, 0, 6};
+    uint8_t bytes[MOST_GIVEN + 1] = {0};
+    refused_texts();
+    refused_shapes();
+    read_and_written("pOiNt  (  007   -12  )", "POINT (7 -12)", MISONKANDI_SHAPE_POINT, 1, pair);
+    read_and_written("LineString(7 -12,-0 5)", "LINESTRING (7 -12, 0 5)", MISONKANDI_SHAPE_LINESTRING, 2, pair);
+    read_and_written("polygon ( (0 0,10 0 , 10 6,-0 06,00 -0) )", "POLYGON ((0 0, 10 0, 10 6, 0 6, 0 0))",
+                     MISONKANDI_SHAPE_POLYGON, 4, ring);
+    SAME(write_longest(bytes), MISONKANDI_MOST_WKT_BYTES);
+    read_and_written((const char *)bytes, (const char *)bytes, MISONKANDI_SHAPE_POLYGON, 64, longest);
+}
+
 /* ---- Larger numbers ---- */
+
+/* All that a call is lent, at its full length. */
+static lendings all_lent(int k) {
+    static uint8_t cells[9], text[9], labels[224], bytes[MOST_GIVEN], buffer[MOST_GIVEN];
+    static int32_t corners[MOST_NUMBERS];
+    static uint64_t answer[3];
+    lendings l;
+    l.cells = cells, l.text = text, l.labels = labels, l.buffer = buffer, l.bytes = bytes;
+    l.xy = numbers_of(calls[k].given), l.corners = corners, l.answer = answer;
+    l.count = write_given(calls[k].given, bytes), l.room = MOST_GIVEN;
+    memcpy(cells, start, 9);
+    return l;
+}
 
 /* Cells above 3: read as 2, written as 3 by every accepted call that writes cells, and left by a refused one. */
 static void larger(void) {
     int k;
     for (k = 0; k < CALLS; k++) {
-        uint8_t cells[9], text[9], labels[224], bytes[MISONKANDI_MOST_RECORD_BYTES], buffer[12];
         int at;
-        lendings l;
-        memset(cells, 250, 9);
-        l.cells = cells, l.text = text, l.labels = labels, l.buffer = buffer, l.bytes = bytes, l.xy = saw;
-        l.count = write_given(calls[k].given, bytes);
+        lendings l = all_lent(k);
+        memset(l.cells, 250, 9);
         calls[k].call(&l);
-        for (at = 0; at < 9; at++) same(calls[k].name, cells[at] <= 3, (unsigned long)calls[k].writes);
+        for (at = 0; at < 9; at++) same(calls[k].name, l.cells[at] <= 3, (unsigned long)calls[k].writes);
     }
     {
         uint8_t cells[9] = MISONKANDI_START;
@@ -467,16 +612,12 @@ static size_t depth(int k, const lendings *l) {
 }
 
 static void stack(void) {
-    uint8_t cells[9] = MISONKANDI_START, text[9], labels[224], bytes[MISONKANDI_MOST_RECORD_BYTES], buffer[12];
     size_t deepest = 0, here;
     int k, which = 0;
-    lendings l;
-    l.cells = cells, l.text = text, l.labels = labels, l.buffer = buffer, l.bytes = bytes, l.xy = saw;
-    l.count = write_given(calls[0].given, bytes);
+    lendings l = all_lent(0);
     depth(0, &l); /* the first thread of a program has more to do than the next */
     for (k = 0; k < CALLS; k++) {
-        memcpy(cells, start, 9);
-        l.count = write_given(calls[k].given, bytes);
+        l = all_lent(k);
         here = depth(k, &l);
         printf("%-16s %4lu bytes of stack\n", calls[k].name, (unsigned long)here);
         if (here > deepest) deepest = here, which = k;
@@ -487,12 +628,13 @@ static void stack(void) {
 }
 
 int main(void) {
-    write_saw();
+    write_corners();
     all_counts();
     nulls();
     numbers();
     reports();
     outlines();
+    shapes();
     larger();
     stack();
     puts(wrong ? "the header is wrong" : "the library does what the header says at its edges");

@@ -1,5 +1,5 @@
-/* A plan record from bytes to nine letters, a predicate by its row and one by its name, a refused pattern, and points
- * in an outline. */
+/* A plan record from bytes to nine letters, a predicate by its row and one by its name, a refused pattern, points in an
+ * outline, and shapes read from text and written back. */
 #include "misonkandi.h"
 #include <stdio.h>
 #include <string.h>
@@ -39,6 +39,22 @@ static void tell_point(int32_t x, int32_t y) {
         printf("(%ld, %ld) refused %u\n", (long)x, (long)y, (unsigned)MISONKANDI_NUMBER(word));
 }
 
+/* A shape's text from a plan tool, as it is written back. */
+static void tell_text(const char *text) {
+    int32_t xy[2 * MISONKANDI_MOST_CORNERS];
+    uint64_t answer[3];
+    uint8_t written[MISONKANDI_MOST_WKT_BYTES];
+    uint32_t word = misonkandi_read_wkt(bytes(text), strlen(text), xy, answer);
+    if (!MISONKANDI_REFUSED(word))
+        word = misonkandi_write_wkt((uint32_t)answer[0], xy, 2 * (size_t)answer[1], written, sizeof written, 0);
+    if (!MISONKANDI_REFUSED(word))
+        printf("%.*s\n", (int)word, (const char *)written);
+    else if (MISONKANDI_NUMBER(word) == MISONKANDI_REFUSAL_BAD_TEXT)
+        printf("%s refused: no text goes on at %lu\n", text, (unsigned long)answer[2]);
+    else
+        printf("%s refused %u\n", text, (unsigned)MISONKANDI_NUMBER(word));
+}
+
 int main(void) {
     uint8_t cells[MISONKANDI_CELLS] = MISONKANDI_START, text[MISONKANDI_CELLS];
     uint32_t used = misonkandi_record(cells, record, sizeof record);
@@ -55,5 +71,9 @@ int main(void) {
     tell_point(5, 5); /* in the notch */
     tell_point(8, 6);
     tell_point(2000000000, 3);
+    tell_text("polygon((0 0,10 0,10 6,-0 06,0 0))");
+    tell_text("LINESTRING()");
+    tell_text("LINESTRING(1 2)");
+    tell_text("POLYGON((0 0,4 0,4 4,0 1))");
     return 0;
 }

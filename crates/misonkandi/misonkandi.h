@@ -1,12 +1,12 @@
 /* Misonkandi for C: DE-9IM matrices, their eleven predicates and patterns, and what fills a matrix: plan records, the
- * ends at a node, points and boxes, stored reports; and a point in an outline. `sh tools/library.sh` builds the
- * library for the processor at hand, target/native/libmisonkandi.a.
+ * ends at a node, points and boxes, stored reports; a point in an outline; and shapes as WKT text. `sh
+ * tools/library.sh` builds the library for the processor at hand, target/native/libmisonkandi.a.
  *
  * Every function of the library is proved to answer what its contract says, for all bytes and numbers that it can be
  * given; this header says the same in words. Two duties are left to the caller:
  *
- *   - A pointer leads to as many bytes as its parameter says, or to `count` bytes, or `room`, or to `numbers`
- *     numbers of 32 bits. Where that is 0 the pointer is not used and may be NULL; no other may.
+ *   - A pointer leads to as many bytes or numbers as its parameter says, or to `count` bytes, or `room`, or to
+ *     `numbers` numbers of 32 bits. Where that is 0 the pointer is not used and may be NULL; no other may.
  *   - What a call writes overlaps nothing else that the call is lent: the proofs don't cover that. Two that are only
  *     read may overlap.
  *
@@ -15,9 +15,10 @@
  * memset.
  *
  * Stack: MISONKANDI_STACK_BYTES are enough for any call. misonkandi_star takes most, about 5,000 bytes,
- * misonkandi_bundle 3,900, misonkandi_record 2,900, misonkandi_point_in_outline 1,400, each other less than 400:
- * measured on x86-64, on a painted stack (bindings/c/run.sh, which fails at more than MISONKANDI_STACK_BYTES). No call
- * leads back to itself.
+ * misonkandi_bundle 3,900, misonkandi_write_wkt 3,400, misonkandi_record 2,900, misonkandi_read_wkt 1,700,
+ * misonkandi_point_in_outline 1,400, each other less than 400: measured on x86-64, on a painted stack
+ * (bindings/c/run.sh, which fails at more than MISONKANDI_STACK_BYTES). No function leads back to itself but the one
+ * that writes a number's digits, at most ten deep.
  */
 #ifndef MISONKANDI_H
 #define MISONKANDI_H
@@ -38,18 +39,20 @@ extern "C" {
 
 /* ---- Answers and refusals ----
  *
- * An answer is one word below 2^31. A refusal is 2^31 + 256 * number + place. A call that answers more than a word will
- * be lent an array of numbers for it.
+ * An answer is one word below 2^31. A refusal is 2^31 + 256 * number + place. A call that answers more than a word is
+ * lent an array of numbers for it: so misonkandi_read_wkt alone.
  *
- * A refused call leaves every byte that it was lent as it was. An accepted call that writes cells writes all nine, each
- * 0 to 3: no larger number is left.
+ * A refused call leaves every byte that it was lent as it was, but for one number: refused, misonkandi_read_wkt writes
+ * the whole place into answer[2]. An accepted call that writes cells writes all nine, each 0 to 3: no larger number is
+ * left.
  */
 
 /* Whether a word is no answer: a refusal, or MISONKANDI_NO_SUCH_ROW. */
 #define MISONKANDI_REFUSED(word) (((word) >> 31) != 0)
 
-/* Of a word that is refused: why, one of the numbers below; and the bad byte's place, 0 to 8 (0 for all numbers but
- * MISONKANDI_REFUSAL_BAD_BYTE). */
+/* Of a word that is refused: why, one of the numbers below; and a place: of MISONKANDI_REFUSAL_BAD_BYTE the bad
+ * byte's, 0 to 8; of MISONKANDI_REFUSAL_BAD_TEXT the place in the text, or 255 where it is more than that (the whole of
+ * it is in answer[2]); of all other numbers 0. */
 #define MISONKANDI_NUMBER(word) (((word) >> 8) & 0x7FFFFF)
 #define MISONKANDI_PLACE(word) ((word) & 0xFF)
 
@@ -71,9 +74,11 @@ enum misonkandi_refusals {
     MISONKANDI_REFUSAL_NO_ROOM = 12,        /* offset beyond the buffer, or fewer bytes from it than are written */
     MISONKANDI_REFUSAL_NOT_A_PLACE = 13,    /* coordinate not finite, box without min < max on an axis, kind above 1 */
     MISONKANDI_REFUSAL_TOP_BITS = 14,       /* one of the top six bits of a short report's cells set */
-    MISONKANDI_REFUSAL_CORNER_COUNT = 16,   /* outline not of 3 to 64 corners, or half a corner left over */
+    MISONKANDI_REFUSAL_CORNER_COUNT = 16,   /* wrong count of corners, or half a corner left over; no such shape */
     MISONKANDI_REFUSAL_OUT_OF_RANGE = 17,   /* coordinate of a corner or of the point beyond 1,000,000,000 in size */
-    MISONKANDI_REFUSAL_EQUAL_CORNERS = 18   /* two equal neighbouring corners, last and first included */
+    MISONKANDI_REFUSAL_EQUAL_CORNERS = 18,  /* two equal neighbouring corners of an outline, last and first included */
+    MISONKANDI_REFUSAL_BAD_TEXT = 19,       /* no WKT text; the place is where none could go on */
+    MISONKANDI_REFUSAL_RING_OPEN = 22       /* ring of a WKT text whose last pair isn't its first */
 };
 
 /* ---- The matrix ----
@@ -216,6 +221,54 @@ uint32_t misonkandi_relate_places(uint32_t kind_a, double ax, double ay, double 
 /* Where the point (x, y) lies against the outline: MISONKANDI_INSIDE, _ON_BOUNDARY or _OUTSIDE, or refusal 16, 17 or
  * 18. The count is of numbers, twice that of corners. */
 uint32_t misonkandi_point_in_outline(const int32_t *xy, size_t numbers, int32_t x, int32_t y);
+
+/* ---- Shapes as text ----
+ *
+ * A shape is a point, a line or a polygon of one ring: a kind, and its corners as numbers, x and y of each in turn,
+ * whole and within 1,000,000,000 in size. A point has 1 corner, a line 2 to 64, a ring 3 to 64: its first corner isn't
+ * held again at the end. Neighbouring corners may be equal (misonkandi_point_in_outline refuses these, 18).
+ *
+ * As text (WKT) it is a keyword in any case, then its pairs of numbers in brackets, a polygon's in two:
+ *
+ *   POINT (1 2)     LINESTRING (0 0, 10 0, 10 6)     POLYGON ((0 0, 10 0, 10 6, 0 0))
+ *
+ * Tokens are the keyword, each bracket, each comma and each number; a number is an optional minus and digits, any
+ * number of them, leading zeros too. Any number of spaces, byte 0x20 and no other, may stand between two tokens, and at
+ * least one does between two numbers; none stands before the keyword or behind the last bracket. A point has one pair,
+ * the others one or more, with commas between. In the text a ring ends with its first pair again, by value: -0 00
+ * closes 0 0. There is no EMPTY, no second ring, no third coordinate, no fraction, no plus.
+ *
+ * Reading checks in this order: 19, with the first place at which no text of this grammar could go on, whatever its
+ * counts, ranges and ring: the place of a byte, or the count of bytes where the text ends too early; 16, for other than
+ * 1 pair of a point, 2 to 64 of a line, 4 to 65 of a ring; 17, a number beyond 1,000,000,000 in size, of however many
+ * digits; 22, a ring's last pair isn't its first.
+ *
+ * Writing has one spelling: the keyword in capitals, one space after it, one in a pair, a comma and one space between
+ * pairs, no other space; no leading zeros, no minus on zero; a ring's first corner again at its end. Reading what was
+ * written gives the same shape. Checked in this order: 16; 17; 12.
+ */
+enum misonkandi_shape_kinds {
+    MISONKANDI_SHAPE_POINT = 1,
+    MISONKANDI_SHAPE_LINESTRING = 2,
+    MISONKANDI_SHAPE_POLYGON = 3
+};
+
+/* The most bytes that are written of a shape: a ring of 64 corners, each number with a minus and ten digits. A text
+ * that is read may have any number of bytes. */
+#define MISONKANDI_MOST_WKT_BYTES 1635
+
+/* Reads a text of `count` bytes, all of it: 0, the corners' numbers written to the front of xy and every number after
+ * them as it was, and answer[0] the kind, answer[1] how many corners, answer[2] 0. Or refusal 19, 16, 17 or 22, and
+ * answer[2] alone is written: the whole place of 19, also beyond the word's 255, and 0 for the others; xy, answer[0]
+ * and answer[1] stay as they were. */
+uint32_t misonkandi_read_wkt(const uint8_t *text, size_t count, int32_t xy[128], uint64_t answer[3]);
+
+/* Writes a shape's text into a buffer of `room` bytes from `offset` on: the bytes written, at most
+ * MISONKANDI_MOST_WKT_BYTES, every other byte as it was, and no zero byte after them. Or a refusal and no byte written:
+ * 16 for no such kind, an odd count of numbers or a wrong count of corners (the count is of numbers, twice that of
+ * corners); 17; 12 if the offset lies beyond the buffer or fewer bytes follow it than the text has. */
+uint32_t misonkandi_write_wkt(uint32_t kind, const int32_t *xy, size_t numbers, uint8_t *buffer, size_t room,
+                              size_t offset);
 
 /* ---- Labels and ends, bundles and stars ----
  *

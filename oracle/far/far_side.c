@@ -5,9 +5,9 @@
  * A batch is its count (4 bytes), then for each call: operation, a (4), b (4), dimension, count of text bytes, the nine
  * cells with a guard of nine on either side (27), text (24). The answer to each: word (4), the 27 bytes, the text.
  *
- * If the count's highest bit is set, calls on ends, records, reports and outlines follow, and the other bits count
- * their bytes. For each: operation, a (4), b (4), offset (8), count of `out` (4), count of `bytes` (4), then out and
- * bytes with a guard of 16 before, between and after. The calls are made where these lie, but for an outline's, and all
+ * If the count's highest bit is set, calls on ends, records, reports, outlines and texts follow, and the other bits
+ * count their bytes. For each: operation, a (4), b (4), offset (8), count of `out` (4), count of `bytes` (4), then out
+ * and bytes with a guard of 16 before, between and after. The calls are made where these lie, but for numbers, and all
  * comes back with the word in the place of a. */
 #include "bare.h"
 #include "misonkandi.h"
@@ -19,7 +19,7 @@ enum { PLAN_BATCH = 1 << 20, PLAN_HEAD = 25, PLAN_GUARD = 16 };
 static uint8_t sent[BATCH * SENT];
 static uint8_t returned[BATCH * RETURNED];
 static uint8_t plans[PLAN_BATCH];
-static int32_t numbers[PLAN_BATCH / 4];
+static uint64_t numbers[PLAN_BATCH / 8];
 
 static uint32_t word_at(const uint8_t *at)
 {
@@ -56,15 +56,38 @@ static void answer(const uint8_t *from, uint8_t *to)
         to[i] = (uint8_t)(word >> 8 * i);
 }
 
-/* Numbers must lie at a multiple of four. They are copied to where they do, guards too, and back. */
+/* Numbers must lie at a multiple of their size. They are copied to where they do, guards too; then back. */
+static void *laid(const uint8_t *bytes, size_t count)
+{
+    memcpy(numbers, bytes - PLAN_GUARD, count + 2 * PLAN_GUARD);
+    return numbers + PLAN_GUARD / sizeof *numbers;
+}
+
+static uint32_t laid_back(uint32_t word, uint8_t *bytes, size_t count)
+{
+    memcpy(bytes - PLAN_GUARD, numbers, count + 2 * PLAN_GUARD);
+    return word;
+}
+
 static uint32_t outline_call(uint8_t *bytes, size_t count, uint32_t x, uint32_t y)
 {
-    uint8_t *stretch = bytes - PLAN_GUARD;
-    size_t all = count + 2 * PLAN_GUARD;
-    memcpy(numbers, stretch, all);
-    uint32_t word = misonkandi_point_in_outline(numbers + PLAN_GUARD / 4, count / 4, (int32_t)x, (int32_t)y);
-    memcpy(stretch, numbers, all);
-    return word;
+    const int32_t *xy = laid(bytes, count);
+    return laid_back(misonkandi_point_in_outline(xy, count / 4, (int32_t)x, (int32_t)y), bytes, count);
+}
+
+/* The three numbers of the answer, then the corners' numbers. */
+static uint32_t read_wkt_call(const uint8_t *text, size_t count, uint8_t *room, size_t room_count)
+{
+    uint64_t *answer = laid(room, room_count);
+    return laid_back(misonkandi_read_wkt(text, count, (int32_t *)(answer + 3), answer), room, room_count);
+}
+
+static uint32_t write_wkt_call(uint32_t kind, uint8_t *shape, size_t shape_count, uint8_t *buffer, size_t room,
+                               size_t offset)
+{
+    const int32_t *xy = laid(shape, shape_count);
+    uint32_t word = misonkandi_write_wkt(kind, xy, shape_count / 4, buffer, room, offset);
+    return laid_back(word, shape, shape_count);
 }
 
 static uint32_t plan_call(uint8_t operation, uint32_t a, uint32_t b, size_t offset, uint8_t *out, size_t out_count,
@@ -79,6 +102,8 @@ static uint32_t plan_call(uint8_t operation, uint32_t a, uint32_t b, size_t offs
     case 5: return misonkandi_write_short_report(out, bytes, count, offset);
     case 6: return misonkandi_convert_report(bytes, count, out, out_count, offset);
     case 7: return outline_call(bytes, count, a, b);
+    case 8: return read_wkt_call(bytes, count, out, out_count);
+    case 9: return write_wkt_call(a, out, out_count, bytes, count, offset);
     }
     end(6);
     return 0;

@@ -1,4 +1,4 @@
-# What run.sh and outlines.sh share: GEOS, a folder to build in, and the library. To be read in this folder.
+# What run.sh, outlines.sh and wkt.sh share: GEOS, a folder to build in, and the library. To be read in this folder.
 #
 # MISONKANDI_LIB_DIR may name the folder of libmisonkandi.a, a relative one from the folder above, as for the oracle;
 # then the library isn't built.

@@ -1,4 +1,4 @@
-/* The clock of both benchmarks. */
+/* The clock of the benchmarks. */
 #include "timing.h"
 #include <time.h>
 

@@ -1,4 +1,4 @@
-/* The clock of both benchmarks. */
+/* The clock of the benchmarks. */
 #ifndef TIMING_H
 #define TIMING_H
 

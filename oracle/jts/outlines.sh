@@ -5,19 +5,13 @@
 #   outlines.sh --bench          GEOS's table (../geos/outlines.sh --bench) with JTS's lines; JTS in its own process
 set -eu
 cd "$(dirname "$0")"
-jar=/usr/share/java/jts-core-1.19.0.jar
-if ! [ -e "$jar" ] || ! command -v javac >/dev/null; then
-    apt-get update -qq
-    apt-get install -y -qq libjts-java default-jdk-headless
-fi
-out=$(mktemp -d)
-trap 'rm -rf "$out"' EXIT
-javac -cp "$jar" -d "$out" OutlineCase.java Outlines.java OutlineBench.java
+. ./common.sh
+compile OutlineCase.java Outlines.java OutlineBench.java
 
 if [ "${1:-}" = --bench ]; then
     sh ../geos/outlines.sh --bench "$out/inputs"
-    java -cp "$jar:$out" OutlineBench "$out/inputs"
+    jts OutlineBench "$out/inputs"
 else
     # A list that breaks off is no list.
-    { sh ../geos/outlines.sh --list "$@" || echo broken; } | java -cp "$jar:$out" Outlines
+    { sh ../geos/outlines.sh --list "$@" || echo broken; } | jts Outlines
 fi

@@ -1,5 +1,9 @@
-/* Tasks are gathered, the library is asked about all of them, and each is judged. */
-#include "outlines.h"
+/* Tasks are gathered, the library is asked about all of them, and each is judged. TASKS is the header that says what a
+ * task is, for those that aren't on outlines. */
+#ifndef TASKS
+#define TASKS "outlines.h"
+#endif
+#include TASKS
 
 enum { BATCH = 2048 };
 

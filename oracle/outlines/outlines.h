@@ -2,29 +2,12 @@
 #ifndef OUTLINES_H
 #define OUTLINES_H
 
-#include <stddef.h>
-#include <stdint.h>
-
-/* Request R-8's numbers. */
-enum { LEAST = 3, MOST = 64, LIMIT = 1000000000 };
+#include "corners.h"
 
 enum { INSIDE = 1, ON_BOUNDARY = 2, OUTSIDE = 3 };
 
-/* A refusal as the C interface has it: 2^31 plus 256 times its number. */
-#define REFUSED(number) (0x80000000u + 256u * (number))
-
-/* Room for an outline with too many corners, and for the points that are asked of one outline. */
-enum { ROOM = 66, POINTS = 36 };
-
-typedef struct {
-    int32_t x, y;
-} spot;
-
-/* Two numbers a corner; of an odd count the last corner has only its x. */
-typedef struct {
-    size_t numbers;
-    spot corners[ROOM];
-} outline;
+/* Room for the points that are asked of one outline. */
+enum { POINTS = 36 };
 
 /* An outline, its points, and the library's words. Not all are for others too, for GEOS and JTS: of lists that differ
  * in start and direction alone one may be enough. */
@@ -49,17 +32,6 @@ void grid_tasks(int corners);
 void simple_tasks(long count, uint64_t seed);
 void tangled_tasks(long count, uint64_t seed);
 void refused_tasks(void);
-
-/* spread.c: how many corners, and where they may lie. */
-typedef struct {
-    int32_t size, step, shift_x, shift_y;
-    int at_limits;
-} spread;
-spread draw_spread(void);
-size_t draw_count(void);
-spot draw_spot(const spread *s);
-void draw_corners(outline *o, size_t corners, const spread *s);
-void shift(outline *o, const spread *s);
 
 /* shapes.c: a simple outline of at most so many corners. */
 void draw_simple(outline *o, size_t corners, const spread *s);

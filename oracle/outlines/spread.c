@@ -1,8 +1,8 @@
 /* How many corners random outlines have, and where: up to 5, 100, 10^4, 10^6 or 10^9 from the middle; some as
  * multiples, so that many lie on one line and sides have whole points; some at the ends of that range; the middle at
  * 0, or as near to the limits as it can be. */
+#include "corners.h"
 #include "draw.h"
-#include "outlines.h"
 
 spread draw_spread(void)
 {

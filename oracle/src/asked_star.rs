@@ -67,7 +67,9 @@ pub fn said(call: &PlanCall) -> Option<PlanSaid> {
         | PlanOp::WriteReport
         | PlanOp::WriteShortReport
         | PlanOp::ConvertReport
-        | PlanOp::PointInOutline => return None,
+        | PlanOp::PointInOutline
+        | PlanOp::ReadWkt
+        | PlanOp::WriteWkt => return None,
     };
     Some(match answer {
         Some(Ok((word, out))) => PlanSaid::Gave { word, out },

@@ -1,7 +1,9 @@
-//! Document 01's rules for plan records, and what each call on ends, records, reports and outlines must answer. The
-//! rules for stars stand in rule_star.rs, those for reports in rule_report.rs, those for outlines in rule_outline.rs.
+//! Document 01's rules for plan records, and what each call on ends, records, reports, outlines and texts must answer.
+//! The rules for stars stand in rule_star.rs, those for reports in rule_report.rs, those for outlines in
+//! rule_outline.rs, those for shapes' texts in rule_wkt.rs.
 
 use crate::ours::plans::{LABELS, PlanCall, PlanOp};
+use crate::ours::shape_room::ShapeRoom;
 use crate::rule::{self, BAD_CODE, refusal};
 use crate::rule_outline;
 use crate::rule_report;
@@ -9,13 +11,14 @@ use crate::rule_star::{
     self, Collapsed, LABEL_BYTES, Label, MOST_ENDS, Position, TOO_MANY_ENDS, WRONG_LENGTH,
     collapsed, old_collapsed, pour_label, pour_node,
 };
+use crate::rule_wkt;
 
 pub const TOO_FEW_BYTES: u32 = refusal(1);
 pub const BAD_VERSION: u32 = refusal(2);
 pub const BAD_KIND: u32 = refusal(3);
 
 /// The numbers that each function can give: a run that doesn't meet all of them has looked at too little.
-pub const REACHABLE: [(PlanOp, &[u32]); 8] = [
+pub const REACHABLE: [(PlanOp, &[u32]); 10] = [
     (PlanOp::Bundle, &[4, 5, 6, 7, 8]),
     (PlanOp::Star, &[4, 5, 6, 7, 8, 9]),
     (PlanOp::Record, &[1, 2, 3, 4, 5, 6, 7, 8, 9]),
@@ -24,6 +27,8 @@ pub const REACHABLE: [(PlanOp, &[u32]); 8] = [
     (PlanOp::WriteShortReport, &[12]),
     (PlanOp::ConvertReport, &[1, 2, 4, 11, 12, 14]),
     (PlanOp::PointInOutline, &[16, 17, 18]),
+    (PlanOp::ReadWkt, &[16, 17, 19, 22]),
+    (PlanOp::WriteWkt, &[12, 16, 17]),
 ];
 
 /// What a call must answer, and every byte that it was lent, afterwards.
@@ -53,6 +58,11 @@ fn outcome_by(call: &PlanCall, collapsed: Collapsed) -> PlanOutcome {
         PlanOp::WriteShortReport => put(call, &rule_report::short(&call.cells())),
         PlanOp::ConvertReport => written(call, convert(call)),
         PlanOp::PointInOutline => same(call, rule_outline::word(&call.numbers(), call.point())),
+        PlanOp::ReadWkt => read_wkt(call),
+        PlanOp::WriteWkt => match rule_wkt::text_of(call.a, &call.numbers()) {
+            Ok(text) => put(call, text.as_bytes()),
+            Err(word) => same(call, word),
+        },
     }
 }
 
@@ -170,7 +180,7 @@ fn pour_edge_record(cells: &mut [u8; 9], body: &[u8]) -> Result<(), u32> {
     Ok(())
 }
 
-/// A report written into the buffer.
+/// A report or a shape's text written into the buffer.
 fn put(call: &PlanCall, report: &[u8]) -> PlanOutcome {
     match rule_report::written(&call.bytes, report, call.offset) {
         Ok((word, bytes)) => PlanOutcome {
@@ -179,6 +189,17 @@ fn put(call: &PlanCall, report: &[u8]) -> PlanOutcome {
             bytes,
         },
         Err(word) => same(call, word),
+    }
+}
+
+/// Refused it writes too: the place.
+fn read_wkt(call: &PlanCall) -> PlanOutcome {
+    let mut room = ShapeRoom::from_le_bytes(&call.out);
+    let word = rule_wkt::read_into(&call.bytes, &mut room.answer, &mut room.xy);
+    PlanOutcome {
+        word,
+        out: room.to_le_bytes(),
+        bytes: call.bytes.clone(),
     }
 }
 

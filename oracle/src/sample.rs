@@ -17,6 +17,7 @@ use crate::sample_outlines;
 use crate::sample_plans;
 use crate::sample_reports;
 use crate::sample_verdicts;
+use crate::sample_wkt;
 
 /// Never another one: the file must come out the same every time.
 const SEED: u64 = 1;
@@ -71,11 +72,13 @@ pub fn main() {
     plans.extend(sample_plans::more_calls());
     plans.extend(sample_reports::calls());
     let mut met = sample_plans::write_lines(&mut lines, &plans);
-    lines.push_str(sample_outlines::HEAD);
-    met.extend(sample_plans::write_lines(
-        &mut lines,
-        &sample_outlines::calls(),
-    ));
+    for (head, calls) in [
+        (sample_outlines::HEAD, sample_outlines::calls()),
+        (sample_wkt::HEAD, sample_wkt::calls()),
+    ] {
+        lines.push_str(head);
+        met.extend(sample_plans::write_lines(&mut lines, &calls));
+    }
     sample_plans::check_met(&met);
     print!("{lines}");
 }

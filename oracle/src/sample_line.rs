@@ -19,6 +19,8 @@ pub struct Case<'a> {
 pub const MOST_GIVEN: usize = 600;
 /// The most of a report and a buffer together.
 pub const MOST_CONVERTED: usize = 100;
+/// The most bytes of a whole case.
+const MOST: usize = 1280;
 
 pub const HEAD: &str = "\
 # Stored answers for the C interface, a case to a line; our library was asked for none of them.
@@ -41,6 +43,7 @@ impl Case<'_> {
         bytes.extend((self.given.len() as u16).to_be_bytes());
         bytes.extend(self.given);
         bytes.extend(self.due);
+        assert!(bytes.len() <= MOST, "too long for replay");
         let kept = bytes.iter().rposition(|byte| *byte != 0);
         lines.push(letter);
         for byte in &bytes[..kept.map_or(0, |last| last + 1)] {

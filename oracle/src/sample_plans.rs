@@ -1,8 +1,10 @@
-//! The sample's lines of bundles, stars, plan records and stored reports, and the writing of these and of outlines.
+//! The sample's lines of bundles, stars, plan records and stored reports, and the writing of these, of outlines and of
+//! shapes' texts.
 
 use crate::asked_star::{self, PlanSaid};
 use crate::listed;
-use crate::ours::plans::{PlanCall, PlanOp};
+use crate::ours::plans::{self, PlanCall, PlanOp};
+use crate::ours::shape_room::ShapeRoom;
 use crate::plan_pieces::{
     damage_ends, damaged_record, edge_record, end, ends, node_record, record, turned,
     with_bytes_after,
@@ -343,6 +345,8 @@ fn letter(op: PlanOp) -> char {
         PlanOp::WriteShortReport => 'F',
         PlanOp::ConvertReport => 'C',
         PlanOp::PointInOutline => 'I',
+        PlanOp::ReadWkt => 'J',
+        PlanOp::WriteWkt => 'U',
     }
 }
 
@@ -365,40 +369,57 @@ pub fn check_met(met: &[Met]) {
     }
 }
 
+/// A call's numbers have their low byte first, a line's their high byte.
+fn high_bytes_first(lent: &[u8]) -> Vec<u8> {
+    let numbers = plans::numbers(lent);
+    numbers.iter().flat_map(|x| x.to_be_bytes()).collect()
+}
+
+/// What a line has as given, and as due. Where a call is lent two of them, a report or numbers and a buffer, the one
+/// stands after the other.
+fn given_and_due(call: &PlanCall, due: &PlanOutcome) -> (Vec<u8>, Vec<u8>) {
+    let given = call.bytes.clone();
+    match call.op {
+        PlanOp::Bundle | PlanOp::Star | PlanOp::Record | PlanOp::ReadReport => {
+            (given, due.out.clone())
+        }
+        PlanOp::WriteReport | PlanOp::WriteShortReport => (given, due.bytes.clone()),
+        PlanOp::ConvertReport => {
+            let both = [given, call.out.clone()].concat();
+            assert!(both.len() <= MOST_CONVERTED, "too long for replay");
+            (both, [&due.bytes[..], &due.out].concat())
+        }
+        PlanOp::PointInOutline => (high_bytes_first(&given), Vec::new()),
+        PlanOp::ReadWkt => (given, ShapeRoom::from_le_bytes(&due.out).to_be_bytes()),
+        PlanOp::WriteWkt => (
+            [high_bytes_first(&call.out), given].concat(),
+            [high_bytes_first(&due.out), due.bytes.clone()].concat(),
+        ),
+    }
+}
+
 fn write_line(lines: &mut String, call: &PlanCall, due: &PlanOutcome) {
+    let (given, left) = given_and_due(call, due);
     let mut case = Case {
         word: due.word,
         a: (call.offset >> 32) as u32,
         b: call.offset as u32,
-        given: &call.bytes,
-        due: &due.out,
+        given: &given,
+        due: &left,
         ..Case::default()
     };
-    // An outline's numbers have their low byte first in a call, their high byte first in a line.
-    let numbers: Vec<u8> = call
-        .numbers()
-        .iter()
-        .flat_map(|x| x.to_be_bytes())
-        .collect();
-    // Converting is lent a report and a buffer: the one after the other.
-    let both = [&call.bytes[..], &call.out].concat();
-    let both_due = [&due.bytes[..], &due.out].concat();
     match call.op {
-        PlanOp::Bundle | PlanOp::Star => (case.a, case.b) = (call.a, call.b),
-        PlanOp::Record | PlanOp::ReadReport => case.cells = call.cells(),
-        PlanOp::WriteReport | PlanOp::WriteShortReport => {
-            case.cells = call.cells();
-            case.due = &due.bytes;
-        }
-        PlanOp::ConvertReport => {
-            assert!(both.len() <= MOST_CONVERTED, "too long for replay");
-            case.dimension = call.bytes.len() as u8;
-            case.given = &both;
-            case.due = &both_due;
-        }
-        PlanOp::PointInOutline => {
+        PlanOp::Bundle | PlanOp::Star | PlanOp::PointInOutline => {
             (case.a, case.b) = (call.a, call.b);
-            case.given = &numbers;
+        }
+        PlanOp::Record | PlanOp::ReadReport | PlanOp::WriteReport | PlanOp::WriteShortReport => {
+            case.cells = call.cells();
+        }
+        PlanOp::ConvertReport => case.dimension = call.bytes.len() as u8,
+        PlanOp::ReadWkt => {}
+        PlanOp::WriteWkt => {
+            case.cells[0] = u8::try_from(call.a).expect("a kind of one byte");
+            case.dimension = call.numbers().len() as u8;
         }
     }
     case.write(lines, letter(call.op));

@@ -81,6 +81,20 @@ mod declared {
             offset: usize,
         ) -> u32;
         pub fn misonkandi_point_in_outline(xy: *const i32, numbers: usize, x: i32, y: i32) -> u32;
+        pub fn misonkandi_read_wkt(
+            text: *const u8,
+            count: usize,
+            xy: &mut [i32; 128],
+            answer: &mut [u64; 3],
+        ) -> u32;
+        pub fn misonkandi_write_wkt(
+            kind: u32,
+            xy: *const i32,
+            numbers: usize,
+            buffer: *mut u8,
+            room: usize,
+            offset: usize,
+        ) -> u32;
     }
 }
 
@@ -166,4 +180,16 @@ pub fn convert_report(bytes: &[u8], buffer: &mut [u8], offset: usize) -> u32 {
 pub fn point_in_outline(xy: &[i32], x: i32, y: i32) -> u32 {
     // SAFETY: pointer and count are those of one slice, lent to be read until the call ends.
     unsafe { declared::misonkandi_point_in_outline(xy.as_ptr(), xy.len(), x, y) }
+}
+
+pub fn read_wkt(text: &[u8], xy: &mut [i32; 128], answer: &mut [u64; 3]) -> u32 {
+    // SAFETY: pointer and count are those of one slice, lent to be read until the call ends; both arrays lie elsewhere.
+    unsafe { declared::misonkandi_read_wkt(text.as_ptr(), text.len(), xy, answer) }
+}
+
+pub fn write_wkt(kind: u32, xy: &[i32], buffer: &mut [u8], offset: usize) -> u32 {
+    let (start, room) = (buffer.as_mut_ptr(), buffer.len());
+    // SAFETY: each pointer and count are those of one slice. The numbers are lent to be read until the call ends, the
+    // buffer is lent to nobody else until then, and so lies elsewhere.
+    unsafe { declared::misonkandi_write_wkt(kind, xy.as_ptr(), xy.len(), start, room, offset) }
 }

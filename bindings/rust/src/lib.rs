@@ -21,7 +21,8 @@
 //! # Ok::<(), Refusal>(())
 //! ```
 //!
-//! [`Outline`] says where a point lies against a room's walls.
+//! [`Outline`] says where a point lies against a room's walls. [`Shape`] is a point, a line or a polygon, read from WKT
+//! text and written as such.
 //!
 //! What differs from geo: a refusal is a number and a place, not a text; a bad letter of a pattern is refused on every
 //! matrix; raising from text is all or nothing; any line on a geometry's boundary collapses it at a node, not only the
@@ -38,6 +39,7 @@ extern crate alloc;
 
 #[allow(unsafe_code)]
 mod c;
+mod corners;
 mod matrix;
 mod outline;
 mod place;
@@ -46,17 +48,20 @@ mod predicate;
 mod record;
 mod refusal;
 mod report;
+mod shape;
 mod star;
 mod verdict;
 
+pub use corners::MOST_CORNERS;
 pub use matrix::IntersectionMatrix;
-pub use outline::{MOST_CORNERS, Outline, point_in_outline};
+pub use outline::{Outline, point_in_outline};
 pub use place::{Coord, Place, relate_coded};
 pub use positions::{CoordPos, Dimensions};
 pub use predicate::{NoSuchPredicate, Predicate};
 pub use record::{MOST_RECORD_BYTES, Record};
 pub use refusal::{InvalidInputError, Refusal};
 pub use report::{REPORT_BYTES, SHORT_REPORT_BYTES, convert_report};
+pub use shape::{MOST_WKT_BYTES, Shape, ShapeKind, read_wkt, write_wkt};
 pub use star::{END_BYTES, EdgeEnd, LABEL_BYTES, Label, MOST_ENDS, Sides, bundle, bundle_of_bytes};
 #[cfg(feature = "alloc")]
 pub use star::{star, star_of_bytes};

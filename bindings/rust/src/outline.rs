@@ -3,11 +3,9 @@
 use core::fmt;
 
 use crate::c;
+use crate::corners::Corners;
 use crate::positions::CoordPos;
 use crate::refusal::{Refusal, answered};
-
-/// The most corners that an outline may have.
-pub const MOST_CORNERS: usize = 64;
 
 /// A closed outline that the library accepts: 3 to 64 corners (x, y) in whole millimetres, none equal to the next.
 /// Each is joined to the next one, and the last to the first, which isn't given again. Sides may cross or lie on each
@@ -34,9 +32,7 @@ pub const MOST_CORNERS: usize = 64;
 /// Two are equal if their corners are, from the first on; the answers don't depend on where the list starts.
 #[derive(Clone, PartialEq, Eq, Hash)]
 pub struct Outline {
-    /// x and y of each corner. Those past the count are 0.
-    corners: [[i32; 2]; MOST_CORNERS],
-    count: usize,
+    corners: Corners,
 }
 
 impl Outline {
@@ -44,18 +40,18 @@ impl Outline {
     ///
     /// Refused: 16; 17; 18.
     pub fn new(corners: &[(i32, i32)]) -> Result<Outline, Refusal> {
-        // Nothing is cut to fit. The library looks at nothing before the count.
-        if corners.len() > MOST_CORNERS {
-            return Err(Refusal::CornerCount);
-        }
-        let mut outline = Outline {
-            corners: [[0; 2]; MOST_CORNERS],
-            count: corners.len(),
-        };
-        for (place, &(x, y)) in outline.corners.iter_mut().zip(corners) {
-            *place = [x, y];
-        }
+        Outline::of(Corners::new(corners)?)
+    }
+
+    /// The outline of these corners, if the library accepts it.
+    pub(crate) fn of(corners: Corners) -> Result<Outline, Refusal> {
+        let outline = Outline { corners };
         outline.position((0, 0)).map(|_| outline)
+    }
+
+    /// Its corners, as it holds them.
+    pub(crate) fn held(&self) -> &Corners {
+        &self.corners
     }
 
     /// Where a point (x, y) lies; geo's `coordinate_position` asks this of a polygon.
@@ -68,16 +64,12 @@ impl Outline {
     /// crates/outline/specs/Lent.antt; starting the corners elsewhere or reversing them doesn't alter the answer
     /// (`lent-started-elsewhere`, `lent-reversed`, crates/outline/proofs/LawsLent.antt).
     pub fn position(&self, (x, y): (i32, i32)) -> Result<CoordPos, Refusal> {
-        point_in_outline(self.numbers(), x, y)
+        point_in_outline(self.corners.numbers(), x, y)
     }
 
     /// Its corners, in the order in which they were given.
     pub fn corners(&self) -> impl ExactSizeIterator<Item = (i32, i32)> {
-        self.corners[..self.count].iter().map(|&[x, y]| (x, y))
-    }
-
-    fn numbers(&self) -> &[i32] {
-        self.corners[..self.count].as_flattened()
+        self.corners.iter()
     }
 }
 

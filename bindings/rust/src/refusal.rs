@@ -1,4 +1,4 @@
-//! Why a call was refused: document 01's thirteen numbers, and those of requests.
+//! Why a call was refused: document 01's thirteen numbers, and those of requests.
 
 use core::error::Error;
 use core::fmt;
@@ -7,12 +7,13 @@ use crate::c;
 
 /// Why a call was refused. A refused call changes nothing that it was lent.
 ///
-/// The numbers are those of document 01's table "Numbers the caller sees"; 14 is request R-3's of document 02, and 16
-/// to 18 are R-8's. Under which condition each is given, and in which order they are looked at, is proved of the
-/// operation that gives it: `crates/de9im/specs/Patterns.antt` and `Text.antt` for 10 and 11,
+/// The numbers are those of document 01's table "Numbers the caller sees"; 14 is request R-3's of document 02, 16 to 18
+/// are R-8's, 19 and 22 R-9's. Under which condition each is given, and in which order they are looked at, is proved of
+/// the operation that gives it: `crates/de9im/specs/Patterns.antt` and `Text.antt` for 10 and 11,
 /// `crates/plan/specs/Record.antt` for records, `crates/report/specs/Report.antt` and `Converting.antt` for reports,
 /// `crates/star/specs/Calls.antt` for ends, `crates/place/specs/Relate.antt` for 13,
-/// `crates/outline/specs/Answer.antt` for outlines.
+/// `crates/outline/specs/Answer.antt` for outlines, `crates/grammar/specs/ReadAs.antt` and
+/// `crates/wkt/specs/Write.antt` for shapes as text.
 #[derive(Clone, Copy, Debug, PartialEq, Eq, Hash)]
 #[non_exhaustive]
 pub enum Refusal {
@@ -44,12 +45,17 @@ pub enum Refusal {
     NotAPlace,
     /// 14: one of the top six bits of a short report's cells is set.
     TopBits,
-    /// 16: an outline without 3 to 64 corners; of numbers, an odd count too.
+    /// 16: an outline without 3 to 64 corners; a shape without 1 (a point), 2 to 64 (a line) or 3 to 64 (a ring); of
+    /// numbers, an odd count too.
     CornerCount,
     /// 17: a coordinate beyond ±1,000,000,000, a corner's or the point's.
     OutOfRange,
     /// 18: two equal neighbouring corners, last and first included.
     EqualCorners,
+    /// 19: no WKT text, with the first place at which none could go on: a byte's, or the count of bytes.
+    BadText(usize),
+    /// 22: a ring of a WKT text whose last pair isn't its first.
+    RingOpen,
 }
 
 /// The name of geo's error of `matches` and `from_str`. Here it is the refusal, which has a number and a place where
@@ -57,7 +63,7 @@ pub enum Refusal {
 pub type InvalidInputError = Refusal;
 
 impl Refusal {
-    /// Its number, 1 to 14 or 16 to 18.
+    /// Its number: 1 to 14, 16 to 19, or 22.
     #[must_use]
     pub const fn number(self) -> u32 {
         match self {
@@ -78,20 +84,23 @@ impl Refusal {
             Refusal::CornerCount => 16,
             Refusal::OutOfRange => 17,
             Refusal::EqualCorners => 18,
+            Refusal::BadText(_) => 19,
+            Refusal::RingOpen => 22,
         }
     }
 
-    /// The bad byte's place, 0 to 8. Only 11 has one.
+    /// The place of 11, 0 to 8, or of 19, 0 to the count of bytes. No other has one.
     #[must_use]
     pub const fn place(self) -> Option<usize> {
         match self {
-            Refusal::BadByte(place) => Some(place),
+            Refusal::BadByte(place) | Refusal::BadText(place) => Some(place),
             _ => None,
         }
     }
 
-    /// What a word of 2^31 or more refuses for: 256 times the number, plus the place. The library gives no other word
-    /// (`refusalWord`, crates/misonkandi/specs/Words.antt).
+    /// What a word of 2^31 or more refuses for: 256 times the number, plus the place, or plus 255 where that is more.
+    /// The library gives no other word (`refusalWord`, crates/misonkandi/specs/Words.antt, and of a shape's text
+    /// `placeByte`, crates/texts/specs/Words.antt).
     fn of_word(word: u32) -> Refusal {
         match (word - c::REFUSED) / 256 {
             1 => Refusal::Short,
@@ -111,6 +120,8 @@ impl Refusal {
             16 => Refusal::CornerCount,
             17 => Refusal::OutOfRange,
             18 => Refusal::EqualCorners,
+            19 => Refusal::BadText((word % 256) as usize),
+            22 => Refusal::RingOpen,
             _ => unreachable!("the library is proved to give no such word: {word}"),
         }
     }
@@ -131,9 +142,11 @@ impl Refusal {
             Refusal::NoRoom => "no room from the offset",
             Refusal::NotAPlace => "a coordinate not finite, or a box without min < max",
             Refusal::TopBits => "a top bit of a short report's cells set",
-            Refusal::CornerCount => "an outline without 3 to 64 corners",
+            Refusal::CornerCount => "a wrong count of corners",
             Refusal::OutOfRange => "a coordinate beyond 1,000,000,000",
             Refusal::EqualCorners => "two equal neighbouring corners",
+            Refusal::BadText(_) => "no WKT text goes on here",
+            Refusal::RingOpen => "a ring that doesn't end where it starts",
         }
     }
 }

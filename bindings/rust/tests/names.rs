@@ -5,7 +5,8 @@ use std::fs;
 
 use misonkandi::{
     CoordPos, Dimensions, END_BYTES, LABEL_BYTES, MOST_CORNERS, MOST_ENDS, MOST_RECORD_BYTES,
-    NoSuchPredicate, Predicate, REPORT_BYTES, Refusal, SHORT_REPORT_BYTES,
+    MOST_WKT_BYTES, NoSuchPredicate, Predicate, REPORT_BYTES, Refusal, SHORT_REPORT_BYTES,
+    ShapeKind,
 };
 
 const FOLDER: &str = env!("CARGO_MANIFEST_DIR");
@@ -63,7 +64,7 @@ fn the_header_s_functions_are_the_crate_s() {
     let (header, crate_s) = (header(), read("src/c.rs"));
     let names = declared(&header);
     assert_eq!(names, declared(&crate_s));
-    assert_eq!(names.len(), 21);
+    assert_eq!(names.len(), 23);
 }
 
 /// The value of a name of the header, from its `#define` or its enum. An enum's case without a number follows the last.
@@ -153,10 +154,21 @@ fn the_header_s_numbers_are_the_crate_s() {
         ("CORNER_COUNT", Refusal::CornerCount),
         ("OUT_OF_RANGE", Refusal::OutOfRange),
         ("EQUAL_CORNERS", Refusal::EqualCorners),
+        ("BAD_TEXT", Refusal::BadText(0)),
+        ("RING_OPEN", Refusal::RingOpen),
     ];
     for (name, refusal) in refusals {
         let name = format!("REFUSAL_{name}");
         assert_eq!(value(&name), u64::from(refusal.number()));
+    }
+    let kinds = [
+        ("POINT", ShapeKind::Point),
+        ("LINESTRING", ShapeKind::LineString),
+        ("POLYGON", ShapeKind::Polygon),
+    ];
+    for (name, kind) in kinds {
+        let name = format!("SHAPE_{name}");
+        assert_eq!(value(&name), u64::from(kind.number()));
     }
     let sizes = [
         ("LABEL_BYTES", LABEL_BYTES),
@@ -164,6 +176,7 @@ fn the_header_s_numbers_are_the_crate_s() {
         ("MOST_CORNERS", MOST_CORNERS),
         ("MOST_ENDS", MOST_ENDS),
         ("MOST_RECORD_BYTES", MOST_RECORD_BYTES),
+        ("MOST_WKT_BYTES", MOST_WKT_BYTES),
         ("REPORT_BYTES", REPORT_BYTES),
         ("SHORT_REPORT_BYTES", SHORT_REPORT_BYTES),
     ];

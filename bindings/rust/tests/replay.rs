@@ -6,8 +6,8 @@ use std::fs;
 
 use misonkandi::{
     CoordPos, END_BYTES, EdgeEnd, IntersectionMatrix, LABEL_BYTES, Label, MOST_ENDS, Outline,
-    Place, Predicate, Refusal, Verdict, bundle, bundle_of_bytes, convert_report, point_in_outline,
-    relate_coded, star, star_of_bytes,
+    Place, Predicate, Refusal, Shape, ShapeKind, Verdict, bundle, bundle_of_bytes, convert_report,
+    point_in_outline, read_wkt, relate_coded, star, star_of_bytes, write_wkt,
 };
 
 const FOLDER: &str = concat!(env!("CARGO_MANIFEST_DIR"), "/../../crates/replay/");
@@ -74,14 +74,16 @@ impl Case {
     /// A buffer afterwards is what is due.
     fn holds(&self, buffer: &[u8]) {
         let mut due = self.due.clone();
+        assert!(due.len() <= buffer.len(), "more is due than is lent");
         due.resize(buffer.len(), 0);
         assert_eq!(buffer, due);
     }
 
-    /// The answer's word is the one that is stored.
+    /// The answer's word is the one that is stored. A place above 255 is 255 in it.
     fn says(&self, answer: Result<u32, Refusal>) {
         let refused = |refusal: Refusal| {
-            (1 << 31) + 256 * refusal.number() + refusal.place().unwrap_or(0) as u32
+            let place = refusal.place().unwrap_or(0).min(255);
+            (1 << 31) + 256 * refusal.number() + place as u32
         };
         assert_eq!(answer.unwrap_or_else(refused), self.word);
     }
@@ -316,25 +318,77 @@ fn place_case(case: &Case) {
     }
 }
 
-/// I: a point (a, b) against the corners of the numbers given, four bytes each and two's complement. As numbers and,
-/// where these are whole corners, as an outline, which is refused where the point (0, 0) would be.
+/// Numbers of four bytes each, two's complement.
+fn numbers_of(bytes: &[u8]) -> Vec<i32> {
+    let (fours, rest) = bytes.as_chunks::<4>();
+    assert_eq!(rest, [], "numbers of four bytes");
+    let xy = fours.iter().map(|bytes| i32::from_be_bytes(*bytes));
+    xy.collect()
+}
+
+/// The corners that numbers are, if they are whole corners.
+fn corners_of(xy: &[i32]) -> Option<Vec<(i32, i32)>> {
+    let (pairs, rest) = xy.as_chunks::<2>();
+    let corners = pairs.iter().map(|&[x, y]| (x, y));
+    rest.is_empty().then(|| corners.collect())
+}
+
+/// I: a point (a, b) against the corners of the numbers given. As numbers and, where these are whole corners, as an
+/// outline, which is refused where the point (0, 0) would be.
 fn outline_case(case: &Case) {
     assert_eq!(case.due, [], "it writes nothing");
     let (x, y) = (case.a as i32, case.b as i32);
-    let (fours, rest) = case.given.as_chunks::<4>();
-    assert_eq!(rest, [], "numbers of four bytes");
-    let xy = fours.iter().map(|bytes| i32::from_be_bytes(*bytes));
-    let xy = xy.collect::<Vec<_>>();
+    let xy = numbers_of(&case.given);
     let answer = point_in_outline(&xy, x, y);
     case.says(answer.map(|position| CoordPos::code(Some(position)).into()));
-    let (pairs, []) = xy.as_chunks::<2>() else {
+    let Some(corners) = corners_of(&xy) else {
         return;
     };
-    let corners = pairs.iter().map(|&[x, y]| (x, y)).collect::<Vec<_>>();
     match Outline::new(&corners) {
         Ok(outline) => assert_eq!(outline.position((x, y)), answer),
         Err(refusal) => assert_eq!(point_in_outline(&xy, 0, 0), Err(refusal)),
     }
+}
+
+/// J: a text read. What is due is what stands in three answers of eight bytes and 128 numbers that were nines before
+/// the call. A refused one leaves them, but for the last answer: the whole place.
+fn read_case(case: &Case) {
+    let mut xy = [9; 128];
+    let answer = read_wkt(&case.given, &mut xy);
+    case.says(answer.map(|_| 0));
+    let answers = match answer {
+        Ok((kind, count)) => [kind.number().into(), count as u64, 0],
+        Err(refusal) => [9, 9, refusal.place().unwrap_or(0) as u64],
+    };
+    let (answers, xy_bytes) = (answers.map(u64::to_be_bytes), xy.map(i32::to_be_bytes));
+    case.holds(&[answers.as_flattened(), xy_bytes.as_flattened()].concat());
+
+    let shape = Shape::read_wkt(&case.given);
+    let corners = |count: usize| corners_of(&xy[..2 * count]).expect("whole corners");
+    let made = answer.map(|(kind, count)| Shape::new(kind, &corners(count)).expect("a shape"));
+    assert_eq!(shape, made);
+    let text = str::from_utf8(&case.given).ok();
+    assert!(text.is_none_or(|text| text.parse() == shape));
+}
+
+/// U: the numbers given, as many as the dimension says, written as the shape of a kind, the first cell, into the bytes
+/// given after them. As numbers and, where they are a shape, as such.
+fn write_case(case: &Case) {
+    let kind = case.cells[0].into();
+    let (start, buffer) = case.given.split_at(4 * usize::from(case.dimension));
+    let xy = numbers_of(start);
+    let mut written = buffer.to_vec();
+    let answer = write_wkt(kind, &xy, &mut written, case.offset());
+    case.says(answer.map(|used| used as u32));
+    case.holds(&[start, &written].concat());
+
+    let (Some(kind), Some(corners)) = (ShapeKind::of_number(kind.into()), corners_of(&xy)) else {
+        return assert_eq!(answer, Err(Refusal::CornerCount));
+    };
+    let mut again = buffer.to_vec();
+    let shape = Shape::new(kind, &corners);
+    let shaped = shape.and_then(|shape| shape.write_wkt(&mut again, case.offset()));
+    assert_eq!((shaped, again), (answer, written));
 }
 
 #[test]
@@ -352,6 +406,8 @@ fn every_stored_answer() {
             'N' | 'D' | 'E' | 'F' | 'C' => record_case(kind, &case),
             'G' => place_case(&case),
             'I' => outline_case(&case),
+            'J' => read_case(&case),
+            'U' => write_case(&case),
             _ => panic!("no such kind of line: {line}"),
         }
         *seen.entry(kind).or_default() += 1;
@@ -361,7 +417,7 @@ fn every_stored_answer() {
     }
     assert_eq!(
         seen.len(),
-        21,
+        23,
         "a kind of line for each call of the library"
     );
     // No line was passed over: the replay of the C interface has the same number.

@@ -50,7 +50,7 @@ stopped-fits (negsuc n) e =
     ap (signed true) (let q : min (suc n) 1000000001 ≡ suc n = omega arith in q)
 
 -- one more number in an array
-filled-in : (n : ℕ) (zs : List Corner) (z : Corner) → length zs < n → filled n (zs ++ (z ∷ [])) ≡ set (filled n zs) (length zs) z
+pub filled-in : (n : ℕ) (zs : List Corner) (z : Corner) → length zs < n → filled n (zs ++ (z ∷ [])) ≡ set (filled n zs) (length zs) z
 filled-in zero zs z h = absurd (not-suc-le-zero h)
 filled-in (suc n) [] z h = refl
 filled-in (suc n) (y ∷ zs) z h = ap (λ (l : List Corner). y ∷ l) (filled-in n zs z (le-of-suc-le-suc h))

@@ -33,6 +33,8 @@ use Rattle.misonkandi.specs.Outlines.{locatedWord}
 use Rattle.misonkandi.specs.Verdicts.{verdictNo, judgedWord}
 use Rattle.misonkandi.specs.Words.{refusalWord, noSuchRow, matchedWord, wordOr, checkedWord}
 use Rattle.de9im.proofs.LawsRefused.{numbered}
+use Rattle.texts.specs.Words.{refusalWord as textWord}
+use Rattle.texts.proofs.LawsTold.{number-told}
 
 -- the refusal with a number and a place: row n has number n; no refusal has the numbers 0, 15, 20 and 21, so no one asks for
 -- their rows
@@ -75,6 +77,12 @@ pub refusal-told : (r q : Refusal) → spotNo (placeOf r) < 256 → spotNo (plac
 refusal-told r q h i e =
     let d = digits (numberOf r) (spotNo (placeOf r)) (numberOf q) (spotNo (placeOf q)) h i e in
     refusal-known r ∙ ap (λ n. refusalAt n (spotNo (placeOf r))) (d .0) ∙ ap (λ k. refusalAt (numberOf q) k) (d .1) ∙ sym (refusal-known q)
+
+-- a text's refusal: its word has a byte of the place, and the whole of it stands beside the word
+pub text-told : (r q : Refusal) → textWord r ≡ textWord q → spotNo (placeOf r) ≡ spotNo (placeOf q) → r ≡ q
+text-told r q e f =
+    refusal-known r ∙ ap (λ n. refusalAt n (spotNo (placeOf r))) (number-told r q e) ∙ ap (λ k. refusalAt (numberOf q) k) f
+    ∙ sym (refusal-known q)
 
 -- from 2^31 on, and below the word for no such row
 pub refusal-high : (r : Refusal) → 2147483648 ≤ refusalWord r

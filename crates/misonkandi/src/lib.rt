@@ -6,6 +6,7 @@ pub mod places;
 pub mod records;
 pub mod reports;
 pub mod rows;
+pub mod shapes;
 pub mod stars;
 pub mod verdicts;
 pub mod words;

@@ -2,26 +2,25 @@
 -- reversed, has the same answer. Assumes nothing.
 use Prim.Native.Nat.{ℕ, zero, suc, _+_, _*_, _/_, _%_, _≤_, _<_}
 use mathlib.Core.Path.{_≡_, refl, sym, ap, _∙_}
-use mathlib.Core.List.{List, [], _∷_, reverse}
+use mathlib.Core.List.{List, [], _∷_, _++_, reverse}
 use native.Mathlib.Omega.{arith}
 use native.Mathlib.Numerals.{add-one}
 use borrow.Author.Tests.{eq-eqb, ne-eqb, eqb-true, eqb-false}
 use lib.Dec.{eqb}
 use lib.IntN.{ℤ, pos}
-use lib.ListN.{length, take, getD, set, length-set}
-use lib.Seq.{take-suc, take-suc-set, take-all}
+use lib.ListN.{length, take, drop, getD, set, length-set, take-append-drop}
+use lib.Seq.{length-take-le, take-suc, take-suc-set, take-at, drop-set-lt, drop-drop}
 use Rattle.de9im.specs.declared.refusal.Refusal.the-variants.{CornerCount}
 use Rattle.de9im.specs.declared.refusal.Spot.the-variants.{Nowhere}
 use Rattle.de9im.proofs.LawsBool.{told}
 use Rattle.outline.specs.declared.corners.Corner.{Corner}
-use Rattle.outline.specs.declared.corners.Outline.{Outline}
 use Rattle.outline.specs.declared.position.Located.the-variants.{Refused}
 use Rattle.outline.specs.Corners.{corner, noCorner}
 use Rattle.outline.specs.Sides.{startedAt}
-use Rattle.outline.specs.Answer.{answerOf, outlineOf}
+use Rattle.outline.specs.Answer.{answerOf}
 use Rattle.outline.specs.Answers.{locatedPlace}
-use Rattle.outline.specs.Lent.{cornersIn, lentOf, numbersOf}
-use Rattle.outline.proofs.LawsAnswer.{outline-listed, answer-nowhere}
+use Rattle.outline.specs.Lent.{cornersIn, lentOf, numbersOf, numbersOver}
+use Rattle.outline.proofs.LawsAnswer.{answer-nowhere}
 use Rattle.outline.proofs.LawsTurn.{started-elsewhere, reversed}
 
 pub corners-length : (ns : List ℤ) → length (cornersIn ns) ≡ length ns / 2
@@ -131,15 +130,34 @@ module _ (cs : List Corner) (ns : List ℤ) (i : ℕ) where
       two-next : 2 * (i + 1) ≡ suc (suc (2 * i))
       two-next = omega arith
 
-  pub put-end : i ≡ length cs → length ns ≡ 2 * i → take (2 * i) ns ≡ take (2 * i) (numbersOf cs) → ns ≡ numbersOf cs
-  put-end h k f =
-      sym (take-all (2 * i) ns (omega arith)) ∙ f ∙ take-all (2 * i) (numbersOf cs) (omega (arith, numbers-length cs))
+  -- what stands behind them stays
+  pub put-rest : (held : List ℤ) → drop (2 * i) ns ≡ drop (2 * i) held → drop (2 * (i + 1)) putTwo ≡ drop (2 * (i + 1)) held
+  put-rest held f =
+      drop-set-lt (2 * (i + 1)) (set ns (2 * i) (getD cs i noCorner .x)) (2 * i + 1) (getD cs i noCorner .y) (omega arith)
+      ∙ drop-set-lt (2 * (i + 1)) ns (2 * i) (getD cs i noCorner .x) (omega arith)
+      ∙ ap (λ k. drop k ns) further ∙ sym (drop-drop 2 (2 * i) ns) ∙ ap (drop 2) f ∙ drop-drop 2 (2 * i) held
+      ∙ ap (λ k. drop k held) (sym further)
+    where
+      further : 2 * (i + 1) ≡ 2 * i + 2
+      further = omega arith
 
-pub outline-lent : (o : Outline) (p : Corner) → o .count ≤ 64
-    → lentOf (take (2 * o .count) (numbersOf (o .corners))) p ≡ outlineOf o p
-outline-lent o p h =
-    ap (λ l. lentOf l p) (numbers-take (o .count) (o .corners)) ∙ lent-listed (take (o .count) (o .corners)) p
-    ∙ sym (outline-listed o p h)
+  pub put-end : (held : List ℤ) → i ≤ length cs → take (2 * i) ns ≡ take (2 * i) (numbersOf cs) → drop (2 * i) ns ≡ drop (2 * i) held
+      → ns ≡ numbersOver (take i cs) held
+  unfolding numbersOver
+  put-end held h f g =
+      sym (take-append-drop (2 * i) ns) ∙ ap (λ l. l ++ drop (2 * i) ns) (f ∙ numbers-take i cs)
+      ∙ ap (λ l. numbersOf (take i cs) ++ l) (g ∙ ap (λ k. drop (2 * k) held) (sym (length-take-le i cs h)))
+
+-- the numbers that were put
+pub over-front : (cs : List Corner) (held : List ℤ) → take (2 * length cs) (numbersOver cs held) ≡ numbersOf cs
+unfolding numbersOver
+over-front cs held = take-at (numbersOf cs) (drop (2 * length cs) held) (2 * length cs) (numbers-length cs)
+
+pub over-lent : (n : ℕ) (cs : List Corner) (p : Corner) (held : List ℤ) → n ≤ length cs
+    → lentOf (take (2 * n) (numbersOver (take n cs) held)) p ≡ answerOf (take n cs) p
+over-lent n cs p held h =
+    ap (λ k. lentOf (take (2 * k) (numbersOver (take n cs) held)) p) (sym (length-take-le n cs h))
+    ∙ ap (λ l. lentOf l p) (over-front (take n cs) held) ∙ lent-listed (take n cs) p
 
 -- ---- the theorems
 

@@ -35,7 +35,7 @@ pub fn same_corner(a: Corner, b: Corner) -> bool
 }
 
 // The corner with a number, of a slice of numbers.
-pub(crate) fn corner_at(xy: &[i32], i: usize) -> Corner
+pub fn corner_at(xy: &[i32], i: usize) -> Corner
     requires { ⌜ 2 * i + 1 < length (now xy) ⌝ }
     ensures { λ r. ⌜ r ≡ getD (cornersIn (now (xy .entry))) i noCorner ⌝ }
 {

@@ -14,13 +14,31 @@ use de9im::refusal::Refusal;
 ghost use Prim.Native.Nat.{_<_, _≤_, _/_};
 ghost use mathlib.Core.Bool.{false};
 ghost use mathlib.Core.Path.{_≡_};
-ghost use lib.ListN.{length};
+ghost use lib.ListN.{length, take};
 ghost use Rattle.outline.specs.Corners.{farCorner, someFar};
 ghost use Rattle.outline.specs.Sides.{sides, someOf, equalEnds};
 ghost use Rattle.outline.specs.Position.{placeOf};
 ghost use Rattle.outline.specs.Answer.{wrongCount};
-ghost use Rattle.outline.specs.Lent.{cornersIn, lentOf};
+ghost use Rattle.outline.specs.Lent.{cornersIn, lentOf, numbersOver};
 ghost use Rattle.outline.specs.Inner.Walk.{farAmong, seenOf};
+
+// x and y of each corner in turn, over the front of the numbers held.
+pub fn numbers_over(corners: [Corner; 64], count: usize, held: [i32; 128]) -> [i32; 128]
+    requires { ⌜ count ≤ 64 ⌝ }
+    ensures { λ r. ⌜ r ≡ numbersOver (take count corners) held ⌝ }
+{
+    let mut xy = held;
+    let mut i: usize = 0;
+    while i < count {
+        let c = corners[i];
+        let x = c.x;
+        let y = c.y;
+        xy[2 * i] = x;
+        xy[2 * i + 1] = y;
+        i += 1;
+    }
+    xy
+}
 
 fn wrong_count(n: usize) -> bool
     ensures { λ r. ⌜ r ≡ wrongCount n ⌝ }

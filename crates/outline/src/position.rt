@@ -1,12 +1,14 @@
 // The position of a point against an outline, and the refusals before it: its numbers lent.
 use crate::corners::Corner;
 use crate::corners::Outline;
+use crate::lent::numbers_over;
 use crate::lent::position_lent;
 use de9im::coordinate_position::CoordPos;
 use de9im::refusal::Refusal;
+ghost use Prim.Native.Nat.{_≤_};
 ghost use mathlib.Core.Path.{_≡_};
-ghost use Rattle.outline.specs.Answer.{outlineOf};
-ghost use Rattle.outline.specs.Lent.{numbersOf};
+ghost use lib.ListN.{take};
+ghost use Rattle.outline.specs.Answer.{answerOf, outlineOf};
 
 // Where a point lies, or why that isn't said.
 pub enum Located {
@@ -14,21 +16,13 @@ pub enum Located {
     Refused(Refusal),
 }
 
-// x and y of each corner in turn.
-fn numbers(corners: [Corner; 64]) -> [i32; 128]
-    ensures { λ r. ⌜ r ≡ numbersOf corners ⌝ }
+// The numbers of its corners, lent.
+fn of_corners(corners: [Corner; 64], count: usize, p: Corner) -> Located
+    requires { ⌜ count ≤ 64 ⌝ }
+    ensures { λ r. ⌜ r ≡ answerOf (take count corners) p ⌝ }
 {
-    let mut xy = [0i32; 128];
-    let mut i: usize = 0;
-    while i < 64 {
-        let c = corners[i];
-        let x = c.x;
-        let y = c.y;
-        xy[2 * i] = x;
-        xy[2 * i + 1] = y;
-        i += 1;
-    }
-    xy
+    let xy = numbers_over(corners, count, [0; 128]);
+    position_lent(&xy[..2 * count], p)
 }
 
 pub fn position(outline: Outline, p: Corner) -> Located
@@ -39,6 +33,5 @@ pub fn position(outline: Outline, p: Corner) -> Located
     if 64 < count {
         return Located::Refused(Refusal::CornerCount);
     }
-    let xy = numbers(corners);
-    position_lent(&xy[..2 * count], p)
+    of_corners(corners, count, p)
 }

@@ -4,11 +4,12 @@
 use crate::matrix_calls;
 use crate::outline_calls;
 use crate::plan_calls;
+use crate::shape_calls;
 ghost use mathlib.Core.Path.{_≡_};
 ghost use Prim.Native.Nat.{_+_, _≤_, _<_};
 ghost use lib.ListN.{length};
 
-pub type Case = [u8; 1024];
+pub type Case = [u8; 1280];
 
 // What stands in a case before the bytes given.
 pub struct Head {
@@ -42,8 +43,8 @@ pub(crate) fn least(a: usize, b: usize) -> usize
 
 // Two digits a byte; zeros where there are no more digits.
 pub(crate) fn decoded(digits: &[u8]) -> Case {
-    let mut out = [0u8; 1024];
-    let n = least(digits.len() / 2, 1024);
+    let mut out = [0u8; 1280];
+    let n = least(digits.len() / 2, 1280);
     for k in 0..n {
         out[k] = byte(digits[2 * k], digits[2 * k + 1]);
     }
@@ -78,14 +79,17 @@ fn count(c: Case) -> usize
     least((256 * wide(c[22]) + wide(c[23])) as usize, 600)
 }
 
-// How many bytes a call may write: a label, a star's labels, a buffer of n bytes, or nine cells or letters.
+// How many bytes a call may write: a label, a star's labels, a text's answers and numbers, a buffer within n bytes, or nine cells or
+// letters.
 fn room(letter: u8, n: usize) -> usize
     requires { ⌜ n ≤ 600 ⌝ }
-    ensures { λ r. ⌜ n + r ≤ 1000 ⌝ }
+    ensures { λ r. ⌜ n + r ≤ 1256 ⌝ }
 {
     match letter {
         b'B' => 7,
         b'K' => 224,
+        b'J' => 536,
+        b'U' => n,
         b'E' | b'F' | b'C' => least(n, 100),
         _ => 9,
     }
@@ -112,17 +116,26 @@ fn asked(letter: u8, h: Head, given: &[u8], due: &[u8]) -> bool {
         b'N' => plan_calls::record(h, given, due),
         b'D' => plan_calls::read_report(h, given, due),
         b'I' => outline_calls::point_in_outline(h, given),
+        b'J' => shape_calls::read_wkt(h, given, due),
         _ => false,
     }
 }
 
 fn is_writing(letter: u8) -> bool {
-    (letter == b'E') | (letter == b'F') | (letter == b'C')
+    (letter == b'E') | (letter == b'F') | (letter == b'C') | (letter == b'U')
 }
 
-// Reports are written into a copy of the case. Of the bytes given to C the first are the report, as many as the dimension says.
+// Of the bytes given to C the first are the report, as many as the dimension says; of those given to U, the numbers, four bytes each.
+fn read_first(letter: u8, dimension: u8) -> usize {
+    if letter == b'U' {
+        return 4 * (dimension as usize);
+    }
+    dimension as usize
+}
+
+// Reports and texts are written into a copy of the case.
 fn written(letter: u8, h: Head, n: usize, c: &[u8], copy: &mut [u8], due: &[u8]) -> bool
-    requires { ⌜ (n ≤ 600) × (length (now c) ≡ 1024) × (length (now copy) ≡ 1024) ⌝ }
+    requires { ⌜ (n ≤ 600) × (length (now c) ≡ 1280) × (length (now copy) ≡ 1280) ⌝ }
 {
     let end = 24 + n;
     if letter == b'E' {
@@ -131,14 +144,17 @@ fn written(letter: u8, h: Head, n: usize, c: &[u8], copy: &mut [u8], due: &[u8])
     if letter == b'F' {
         return plan_calls::write_short_report(h, &mut copy[24..end], due);
     }
-    let count = least(least(h.dimension as usize, n), due.len());
+    let count = least(least(read_first(letter, h.dimension), n), due.len());
     let from = 24 + count;
+    if letter == b'U' {
+        return shape_calls::write_wkt(h, &c[24..from], &mut copy[from..end], &due[count..]);
+    }
     plan_calls::convert_report(h, &c[24..from], &mut copy[from..end], &due[count..])
 }
 
 // Takes the bytes given and those due out of a case.
 fn parted(letter: u8, h: Head, n: usize, c: &[u8], copy: &mut [u8]) -> bool
-    requires { ⌜ (n ≤ 600) × (length (now c) ≡ 1024) × (length (now copy) ≡ 1024) ⌝ }
+    requires { ⌜ (n ≤ 600) × (length (now c) ≡ 1280) × (length (now copy) ≡ 1280) ⌝ }
 {
     let from = 24 + n;
     let to = from + room(letter, n);

@@ -5,6 +5,7 @@ mod case;
 mod matrix_calls;
 mod outline_calls;
 mod plan_calls;
+mod shape_calls;
 
 use libc::STDIN_FILENO;
 use libc::STDOUT_FILENO;

@@ -13,20 +13,20 @@ fn signed(n: u32) -> i32 {
     !((4294967295 - n) as i32)
 }
 
-fn number(s: &[u8], at: usize) -> i32
+pub(crate) fn number(s: &[u8], at: usize) -> i32
     requires { ⌜ 4 + at ≤ length (now s) ⌝ }
 {
     signed(four(s[at], s[at + 1], s[at + 2], s[at + 3]))
 }
 
-// At most 150 numbers: more than an outline can have.
-fn count(given: &[u8]) -> usize
+// At most 150 numbers: more than an outline or a shape can have.
+pub(crate) fn count(given: &[u8]) -> usize
     ensures { λ n. ⌜ (4 * n ≤ length (now (given .entry))) × (n ≤ 150) ⌝ }
 {
     least(given.len() / 4, 150)
 }
 
-fn numbers(given: &[u8]) -> [i32; 150] {
+pub(crate) fn numbers(given: &[u8]) -> [i32; 150] {
     let mut xy = [0i32; 150];
     let n = count(given);
     for k in 0..n {

@@ -77,7 +77,7 @@ pub(crate) fn read_report(h: Head, bytes: &[u8], due: &[u8]) -> bool {
 }
 
 // The offset is a times 2^32, plus b.
-fn offset_of(h: Head) -> usize {
+pub(crate) fn offset_of(h: Head) -> usize {
     4294967296 * (h.a as usize) + (h.b as usize)
 }
 

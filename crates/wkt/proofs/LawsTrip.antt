@@ -41,7 +41,7 @@ filled-take (suc n) (c ∷ cs) h = ap (λ (l : List Corner). c ∷ l) (filled-ta
 pub array-holds : (k : Kind) (cs : List Corner) → length cs ≤ 64 → cornersIn (shape k cs) ≡ cs
 array-holds k cs h = filled-take 64 cs h
 
-filled-length : (n : ℕ) (cs : List Corner) → length (filled n cs) ≡ n
+pub filled-length : (n : ℕ) (cs : List Corner) → length (filled n cs) ≡ n
 filled-length zero cs = refl
 filled-length (suc n) [] = ap suc (filled-length n [])
 filled-length (suc n) (c ∷ cs) = ap suc (filled-length n cs)

@@ -11,9 +11,11 @@ mod stars;
 mod tally;
 mod text;
 mod verdicts;
+mod wkt;
+mod wkt_written;
 
 use crate::asked;
-use crate::ours::plans::PlanCall;
+use crate::ours::plans::{PlanCall, PlanReply};
 use crate::ours::{Call, Library};
 use crate::random::Random;
 use tally::Tally;
@@ -60,10 +62,17 @@ impl Run {
         for (call, reply) in self.waiting.drain(..).zip(replies) {
             self.tally.take(self.kind, &call, &reply);
         }
-        let replies = self.library.answer_plans(&self.waiting_plans);
-        for (call, reply) in self.waiting_plans.drain(..).zip(replies) {
-            self.tally.take_plan(self.kind, &call, &reply);
+        let calls = std::mem::take(&mut self.waiting_plans);
+        self.answered(&calls);
+    }
+
+    /// Has these calls answered and counted at once, for calls that are made of the replies.
+    fn answered(&mut self, calls: &[PlanCall]) -> Vec<PlanReply> {
+        let replies = self.library.answer_plans(calls);
+        for (call, reply) in calls.iter().zip(&replies) {
+            self.tally.take_plan(self.kind, call, reply);
         }
+        replies
     }
 
     /// A count of random inputs, with the multiplier of the command line.
@@ -112,6 +121,8 @@ pub fn main() -> i32 {
     reports::compare_both_forms(&mut run);
     outlines::compare(&mut run);
     stars::compare_turned(&mut run);
+    wkt::compare(&mut run);
+    wkt_written::compare(&mut run);
     run.answer_waiting();
     run.tally.report()
 }

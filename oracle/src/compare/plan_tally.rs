@@ -1,9 +1,10 @@
-//! Judges one call on ends, a record, a report or an outline, and counts it.
+//! Judges one call on ends, a record, a report, an outline or a text, and counts it.
 
 use super::tally::{Size, Tally};
 use crate::asked_star::{self, PlanSaid};
 use crate::listed::{self, Listed};
 use crate::ours::plans::{PlanCall, PlanOp, PlanReply};
+use crate::ours::shape_room::ShapeRoom;
 use crate::rule;
 use crate::rule_plan::{self, PlanOutcome, REACHABLE};
 use crate::rule_star::{END_BYTES, LABEL_BYTES, SINGLE_SIDE};
@@ -15,9 +16,29 @@ pub struct Numbers {
     refused: BTreeMap<(PlanOp, u32), u64>,
     /// How often a point had to be inside an outline, on it and outside.
     positions: [u64; 3],
+    /// How often a text had to be read as a point, as a line and as a polygon, and how often each had to be written.
+    read: [u64; 3],
+    written: [u64; 3],
 }
 
 impl Numbers {
+    /// Counts what a call had to answer.
+    fn note(&mut self, call: &PlanCall, due: &PlanOutcome) {
+        if let Some(number) = rule::number(due.word) {
+            *self.refused.entry((call.op, number)).or_default() += 1;
+            return;
+        }
+        match call.op {
+            PlanOp::PointInOutline => self.positions[due.word as usize - 1] += 1,
+            PlanOp::ReadWkt => {
+                let kind = ShapeRoom::from_le_bytes(&due.out).answer[0];
+                self.read[kind as usize - 1] += 1;
+            }
+            PlanOp::WriteWkt => self.written[call.a as usize - 1] += 1,
+            _ => {}
+        }
+    }
+
     /// Prints them, and answers how many of them were never met.
     pub fn report(&self) -> u64 {
         let mut unmet = 0;
@@ -32,7 +53,11 @@ impl Numbers {
         }
         let [inside, on, outside] = self.positions;
         println!("points in outlines: {inside} inside, {on} on the boundary, {outside} outside");
-        unmet += self.positions.iter().filter(|count| **count == 0).count() as u64;
+        for (done, [points, lines, polygons]) in [("read", self.read), ("written", self.written)] {
+            println!("texts {done}: {points} points, {lines} lines, {polygons} polygons");
+        }
+        let all = [self.positions, self.read, self.written].concat();
+        unmet += all.iter().filter(|count| **count == 0).count() as u64;
         if unmet != 0 {
             println!("{unmet} of the answers above were never met: the calls made are too few");
         }
@@ -60,12 +85,8 @@ impl Tally {
                 describe_answers(&due, said.as_ref(), reply)
             );
         }
+        self.numbers.note(call, &due);
         let number = rule::number(due.word);
-        if let Some(number) = number {
-            *self.numbers.refused.entry((call.op, number)).or_default() += 1;
-        } else if call.op == PlanOp::PointInOutline {
-            self.numbers.positions[due.word as usize - 1] += 1;
-        }
         // A refusal of the reader that stands before the crate says nothing of the crate.
         let asked = said.is_some() && number.is_none_or(|number| number == 9);
         let count = self.count();
@@ -174,6 +195,11 @@ fn describe(call: &PlanCall) -> String {
             let (point, numbers) = (call.point(), call.numbers());
             return format!("{} of {point:?} in {numbers:?}", call.op.name());
         }
+        PlanOp::ReadWkt => {
+            let (text, room) = (call.bytes.escape_ascii(), hex(&call.out));
+            return format!("{} of \"{text}\" into {room}", call.op.name());
+        }
+        PlanOp::WriteWkt => format!(" of {}, {:?} at {}", call.a, call.numbers(), call.offset),
     };
     format!("{}{given}, bytes {}", call.op.name(), hex(&call.bytes))
 }

@@ -86,7 +86,7 @@ fn written(run: &mut Run) {
 }
 
 /// Near the largest number and its halves.
-fn large_offsets() -> impl Iterator<Item = u64> {
+pub(super) fn large_offsets() -> impl Iterator<Item = u64> {
     let near = [1 << 31, 1 << 32, 1 << 33, 1 << 63, 0u64];
     near.into_iter().flat_map(|near| {
         (0..=64).flat_map(move |away| [near.wrapping_sub(away), near.wrapping_add(away)])
@@ -102,7 +102,7 @@ fn some_cells(random: &mut Random) -> [u8; 9] {
     }
 }
 
-fn some_buffer(random: &mut Random, count: usize) -> Vec<u8> {
+pub(super) fn some_buffer(random: &mut Random, count: usize) -> Vec<u8> {
     (0..count).map(|_| random.byte()).collect()
 }
 

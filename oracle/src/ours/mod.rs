@@ -11,6 +11,7 @@ mod far;
 #[cfg_attr(far, allow(dead_code))]
 pub mod linked;
 pub mod plans;
+pub mod shape_room;
 
 use plans::{PlanCall, PlanReply};
 
@@ -172,7 +173,7 @@ impl Library {
             .collect()
     }
 
-    /// Answers the calls on ends, records, reports and outlines in order.
+    /// Answers the calls on ends, records, reports, outlines and texts in order.
     pub fn answer_plans(&mut self, calls: &[PlanCall]) -> Vec<PlanReply> {
         #[cfg(far)]
         let replies = self.side.answer_plans(calls);

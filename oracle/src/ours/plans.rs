@@ -1,13 +1,15 @@
-//! Calls on ends, plan records, stored reports and outlines: their bytes are of any count, so they are written down
-//! apart.
+//! Calls on ends, plan records, stored reports, outlines and shapes' texts: their bytes are of any count, so they are
+//! written down apart.
 //!
 //! What a call is lent stands in one stretch, with guards before, between and after: the bytes that it may write an
-//! answer into (`out`), then the ends, the record, the report, the buffer or the outline's numbers (`bytes`). Converting
-//! has the buffer in `out`, since it reads a report too. The stretch is the same whether the library is linked or in a
-//! program of its own. Numbers in it have their low byte first, as x86-64 has them.
+//! answer into (`out`), then the ends, the record, the report, the buffer, the outline's numbers or the text
+//! (`bytes`). Converting has the buffer in `out`, since it reads a report too; writing a shape has its numbers there.
+//! The stretch is the same whether the library is linked or in a program of its own. Numbers in it have their low byte
+//! first, as x86-64 has them.
 
 #[cfg(all(linked, not(far)))]
 use super::linked;
+use super::shape_room::ShapeRoom;
 
 /// Room for a star's labels: 32 of seven bytes.
 pub const LABELS: usize = 224;
@@ -28,6 +30,8 @@ pub enum PlanOp {
     WriteShortReport = 5,
     ConvertReport = 6,
     PointInOutline = 7,
+    ReadWkt = 8,
+    WriteWkt = 9,
 }
 
 impl PlanOp {
@@ -42,6 +46,8 @@ impl PlanOp {
             PlanOp::WriteShortReport => "misonkandi_write_short_report",
             PlanOp::ConvertReport => "misonkandi_convert_report",
             PlanOp::PointInOutline => "misonkandi_point_in_outline",
+            PlanOp::ReadWkt => "misonkandi_read_wkt",
+            PlanOp::WriteWkt => "misonkandi_write_wkt",
         }
     }
 }
@@ -50,11 +56,11 @@ impl PlanOp {
 #[derive(Clone, Debug)]
 pub struct PlanCall {
     pub op: PlanOp,
-    /// A label's seven bytes, the 224 of a star's labels, nine cells, or the buffer of converting; as they are before the
-    /// call.
+    /// A label's seven bytes, the 224 of a star's labels, nine cells, the buffer of converting, the room of a shape
+    /// that is read, or the numbers of one that is written; as they are before the call.
     pub out: Vec<u8>,
     pub bytes: Vec<u8>,
-    /// The area codes, or the bits of the point's x and y.
+    /// The area codes, the bits of the point's x and y, or a shape's kind.
     pub a: u32,
     pub b: u32,
     pub offset: u64,
@@ -115,19 +121,40 @@ impl PlanCall {
 
     /// The numbers need be no whole corners.
     pub fn point_in_outline(numbers: &[i32], (x, y): (i32, i32)) -> Self {
-        let bytes = numbers.iter().flat_map(|number| number.to_le_bytes());
         PlanCall {
             op: PlanOp::PointInOutline,
             out: Vec::new(),
             a: x as u32,
             b: y as u32,
-            ..PlanCall::bundle(bytes.collect())
+            ..PlanCall::bundle(low_bytes_first(numbers))
         }
     }
 
-    /// The numbers of an outline.
+    pub fn read_wkt(text: Vec<u8>, room: &ShapeRoom) -> Self {
+        PlanCall {
+            op: PlanOp::ReadWkt,
+            out: room.to_le_bytes(),
+            ..PlanCall::bundle(text)
+        }
+    }
+
+    /// The numbers need be no whole corners.
+    pub fn write_wkt(kind: u32, numbers: &[i32], buffer: Vec<u8>, offset: u64) -> Self {
+        PlanCall {
+            op: PlanOp::WriteWkt,
+            out: low_bytes_first(numbers),
+            a: kind,
+            offset,
+            ..PlanCall::bundle(buffer)
+        }
+    }
+
+    /// The numbers of an outline, or of a shape that is written.
     pub fn numbers(&self) -> Vec<i32> {
-        numbers(&self.bytes)
+        match self.op {
+            PlanOp::WriteWkt => numbers(&self.out),
+            _ => numbers(&self.bytes),
+        }
     }
 
     /// The point beside an outline.
@@ -156,7 +183,13 @@ impl PlanCall {
     }
 }
 
-fn numbers(bytes: &[u8]) -> Vec<i32> {
+fn low_bytes_first(numbers: &[i32]) -> Vec<u8> {
+    let bytes = numbers.iter().flat_map(|number| number.to_le_bytes());
+    bytes.collect()
+}
+
+/// Numbers as a call is lent them, and as it leaves them.
+pub fn numbers(bytes: &[u8]) -> Vec<i32> {
     let number = |four: &[u8]| i32::from_le_bytes(four.try_into().expect("four bytes"));
     bytes.chunks_exact(4).map(number).collect()
 }
@@ -194,6 +227,10 @@ pub(super) fn answer(call: &PlanCall) -> PlanReply {
         let word = point_in_outline(call, &mut lent);
         return reply(call, word, &lent);
     }
+    if call.op == PlanOp::ReadWkt {
+        let word = read_wkt(call, &mut lent);
+        return reply(call, word, &lent);
+    }
     let (front, back) = lent.split_at_mut(call.bytes_at().start);
     let out = &mut front[call.out_at()];
     let bytes = &mut back[..call.bytes.len()];
@@ -210,7 +247,8 @@ pub(super) fn answer(call: &PlanCall) -> PlanReply {
             linked::write_short_report((&*out).try_into().expect("nine"), bytes, offset)
         }
         PlanOp::ConvertReport => linked::convert_report(bytes, out, offset),
-        PlanOp::PointInOutline => unreachable!("made above"),
+        PlanOp::WriteWkt => linked::write_wkt(call.a, &numbers(out), bytes, offset),
+        PlanOp::PointInOutline | PlanOp::ReadWkt => unreachable!("made above"),
     };
     reply(call, word, &lent)
 }
@@ -224,6 +262,23 @@ fn point_in_outline(call: &PlanCall, lent: &mut [u8]) -> u32 {
     let word = linked::point_in_outline(&stretch[at.start / 4..at.end / 4], x, y);
     for (four, number) in lent.chunks_exact_mut(4).zip(stretch) {
         four.copy_from_slice(&number.to_le_bytes());
+    }
+    word
+}
+
+/// Numbers must lie at a multiple of their size: the room is copied to where they do, between two others that may not
+/// change, and back. A change of these shows in the stretch's first guard.
+#[cfg(all(linked, not(far)))]
+fn read_wkt(call: &PlanCall, lent: &mut [u8]) -> u32 {
+    let (front, back) = lent.split_at_mut(call.bytes_at().start);
+    let guard = ShapeRoom::filled(HELD.into());
+    let room = ShapeRoom::from_le_bytes(&front[call.out_at()]);
+    let mut rooms = [guard.clone(), room, guard.clone()];
+    let ShapeRoom { answer, xy } = &mut rooms[1];
+    let word = linked::read_wkt(&back[..call.bytes.len()], xy, answer);
+    front[call.out_at()].copy_from_slice(&rooms[1].to_le_bytes());
+    if rooms[0] != guard || rooms[2] != guard {
+        front[0] = !GUARD_BYTE;
     }
     word
 }

@@ -7,7 +7,7 @@ use Rattle.replay.proofs.case.decoded.Statement.{statement}
 use Rattle.replay.proofs.case.decoded.Tie as tie
 
 abbrev Inv-loop : tie.InvT-loop
-Inv-loop digits out₀ n k₀ out k = (k ≤ n) × (length out ≡ 1024)
+Inv-loop digits out₀ n k₀ out k = (k ≤ n) × (length out ≡ 1280)
 
 abbrev μ-loop : tie.MeasureT-loop
 μ-loop digits out₀ n k₀ out k = n - k
