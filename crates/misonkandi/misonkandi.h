@@ -15,10 +15,9 @@
  * memset.
  *
  * Stack: MISONKANDI_STACK_BYTES are enough for any call. misonkandi_star takes most, about 5,000 bytes,
- * misonkandi_bundle 3,900, misonkandi_write_wkt 3,400, misonkandi_record 2,900, misonkandi_read_wkt 1,700,
+ * misonkandi_bundle 3,900, misonkandi_record 2,900, misonkandi_write_wkt 1,900, misonkandi_read_wkt 1,700,
  * misonkandi_point_in_outline 1,400, each other less than 400: measured on x86-64, on a painted stack
- * (bindings/c/run.sh, which fails at more than MISONKANDI_STACK_BYTES). No function leads back to itself but the one
- * that writes a number's digits, at most ten deep.
+ * (bindings/c/run.sh, which fails at more than MISONKANDI_STACK_BYTES). No function leads back to itself.
  */
 #ifndef MISONKANDI_H
 #define MISONKANDI_H

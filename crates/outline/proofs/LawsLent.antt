@@ -60,7 +60,7 @@ lent-nowhere ns p =
 
 -- ---- the numbers of a list of corners
 
-corners-back : (cs : List Corner) → cornersIn (numbersOf cs) ≡ cs
+pub corners-back : (cs : List Corner) → cornersIn (numbersOf cs) ≡ cs
 unfolding cornersIn numbersOf
 corners-back [] = refl
 corners-back (c ∷ cs) = ap (λ l. c ∷ l) (corners-back cs)

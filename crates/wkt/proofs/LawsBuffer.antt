@@ -1,6 +1,6 @@
 -- What stands in the buffer after a shape was written: the text's bytes from the offset, all others as they were, and read back
 -- they are the shape. 1,635 bytes from the offset are room enough for any. Assumes nothing.
-use Prim.Native.Nat.{ℕ, _+_, _-_, _≤_}
+use Prim.Native.Nat.{ℕ, _+_, _≤_}
 use mathlib.Core.Path.{_≡_, refl, sym, ap, _∙_}
 use mathlib.Core.Bool.{Bool, true, false, cond, not, _&&_}
 use mathlib.Core.List.{List, [], _∷_, _++_}
@@ -103,16 +103,16 @@ ends-short Polygon c =
     let e = length-append (pairBytes c) (41 ∷ 41 ∷ []) in
     omega arith
 
-ordered-short : (k : Kind) (n : ℕ) (cs : List Corner) → n ≤ 64 → length (orderedBytes k n cs) ≤ 1635
-ordered-short k n cs h =
+ordered-short : (k : Kind) (cs : List Corner) → length cs ≤ 64 → length (orderedBytes k cs) ≤ 1635
+ordered-short k cs h =
     let c = getD cs 0 origin in
-    let m = moreBytes (take (n - 1) (drop 1 cs)) in
+    let m = moreBytes (drop 1 cs) in
     let a = length-append (headBytes k) (pairBytes c ++ (m ++ closeBytes k c)) in
     let b = length-append (pairBytes c) (m ++ closeBytes k c) in
     let d = length-append m (closeBytes k c) in
     let e = ends-short k c in
     let f = pair-short c in
-    let g = rest-short n cs in
+    let g = rest-short cs in
     omega arith
 
 module _ (s : Shape) (full : length (s .corners) ≡ 64) (can : canWrite s ≡ true) where
@@ -122,8 +122,9 @@ module _ (s : Shape) (full : length (s .corners) ≡ 64) (can : canWrite s ≡ t
   pub text-short : length (shapeText s) ≤ 1635
   text-short =
       let p = some-corners (s .kind) (s .count) (passed .0) in
-      let e = ap length (ordered-written (s .kind) (s .count) (s .corners) (passed .0) (let q = p .1 in omega arith)) in
-      let h = ordered-short (s .kind) (s .count) (s .corners) (p .1) in
+      let n : length (cornersIn s) ≡ s .count = length-take-le (s .count) (s .corners) (let q = p .1 in omega arith) in
+      let e = ap length (ordered-written (s .kind) (cornersIn s) (ap (shapeFits (s .kind)) n ∙ passed .0)) in
+      let h = ordered-short (s .kind) (cornersIn s) (let q = p .1 in omega arith) in
       omega arith
 
   pub room-enough : (buf : List ℕ) (at : ℕ) → at + 1635 ≤ length buf → writeOf s buf at ≡ Used (length (shapeText s))

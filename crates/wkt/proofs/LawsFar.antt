@@ -1,35 +1,21 @@
--- A look at the first corners of an array, one after the other. Assumes nothing.
+-- A look at the corners, one after the other. Assumes nothing.
 use Prim.Native.Nat.{ℕ, _+_, _≤_, _<_}
 use mathlib.Core.Path.{_≡_, sym, ap, _∙_}
 use mathlib.Core.Bool.{Bool, _||_, or-false, or-assoc}
-use mathlib.Core.List.{List, [], _∷_}
-use native.Mathlib.Omega.{arith}
+use mathlib.Core.List.{List, _∷_}
 use native.Mathlib.Numerals.{add-one}
-use lib.ListN.{length, take, drop, getD, drop-of-length-le}
-use lib.Seq.{drop-cons, getD-take, length-take-le}
+use lib.ListN.{length, drop, getD, drop-of-length-le}
+use lib.Seq.{drop-cons}
 use Rattle.outline.specs.declared.corners.Corner.{Corner}
 use Rattle.outline.specs.Corners.{noCorner, farCorner, someFar}
 
-abbrev pub farFrom : List Corner → ℕ → ℕ → Bool
-farFrom cs n i = someFar (drop i (take n cs))
-
-module _ (cs : List Corner) (n i : ℕ) (k : n ≤ length cs) where
-  -- the rest of the first n, from one before its end
-  rest : i < n → drop i (take n cs) ≡ getD cs i noCorner ∷ drop (i + 1) (take n cs)
-  rest h =
-      let g : i < length (take n cs) = omega (arith, length-take-le n cs k) in
-      rw (add-one, ← getD-take n cs i noCorner h) (drop-cons (take n cs) i noCorner g)
-
-  none-left : n ≤ i → drop i (take n cs) ≡ []
-  none-left h =
-      let g : length (take n cs) ≤ i = omega (arith, length-take-le n cs k) in
-      drop-of-length-le (take n cs) g
-
-  pub far-next : (b : Bool) → i < n → ((b || farCorner (getD cs i noCorner)) || farFrom cs n (i + 1)) ≡ (b || farFrom cs n i)
+module _ (cs : List Corner) (i : ℕ) (b : Bool) where
+  pub far-next : i < length cs → ((b || farCorner (getD cs i noCorner)) || someFar (drop (i + 1) cs)) ≡ (b || someFar (drop i cs))
   unfolding someFar
-  far-next b h =
-      or-assoc b (farCorner (getD cs i noCorner)) (farFrom cs n (i + 1)) ∙ sym (ap (λ l. b || someFar l) (rest h))
+  far-next h =
+      let rest : drop i cs ≡ getD cs i noCorner ∷ drop (i + 1) cs = rw add-one (drop-cons cs i noCorner h) in
+      or-assoc b (farCorner (getD cs i noCorner)) (someFar (drop (i + 1) cs)) ∙ sym (ap (λ l. b || someFar l) rest)
 
-  pub far-end : (b : Bool) → n ≤ i → (b || farFrom cs n i) ≡ b
+  pub far-end : length cs ≤ i → (b || someFar (drop i cs)) ≡ b
   unfolding someFar
-  far-end b h = ap (λ l. b || someFar l) (none-left h) ∙ or-false b
+  far-end h = ap (λ l. b || someFar l) (drop-of-length-le cs h) ∙ or-false b

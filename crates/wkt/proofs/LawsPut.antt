@@ -1,5 +1,5 @@
 -- Bytes put one after the other. Assumes nothing.
-use Prim.Native.Nat.{ℕ, zero, suc, _+_, _-_, _/_, _%_, _≤_}
+use Prim.Native.Nat.{ℕ, zero, suc, _+_, _/_, _%_, _≤_, _<_}
 use mathlib.Core.Path.{_≡_, refl, sym, ap, _∙_, subst}
 use mathlib.Core.List.{List, [], _∷_, _++_, append-assoc, append-nil}
 use native.Mathlib.Omega.{arith}
@@ -8,6 +8,7 @@ use mathlib.Core.Bool.{Bool, true, false, cond}
 use native.Mathlib.Numerals.{add-one}
 use lib.Dec.{ltb}
 use lib.ListN.{length, take, length-append}
+use lib.Seq.{take-take, take-at, length-take-le}
 use lib.IntN.{ℤ, natAbs}
 use Rattle.grammar.specs.Grammar.{Digit, signThen, numberThen}
 use Rattle.outline.specs.declared.corners.Corner.{Corner}
@@ -19,21 +20,11 @@ bytes-snoc : (ds : List Digit) (d : Digit) → digitBytes (ds ++ (d ∷ [])) ≡
 bytes-snoc [] d = refl
 bytes-snoc (e ∷ ds) d = ap (λ (l : List ℕ). (48 + e .value) ∷ l) (bytes-snoc ds d)
 
-pub no-digits : (k n : ℕ) (p : List ℕ) → k ≡ 0 → p ≡ p ++ digitBytes (lastDigits k n)
+pub digits-suc : (k n : ℕ) → digitBytes (lastDigits (suc k) n) ≡ digitBytes (lastDigits k (n / 10)) ++ ((48 + n % 10) ∷ [])
 unfolding lastDigits
-no-digits k n p e = rw e (sym (append-nil p))
+digits-suc k n = bytes-snoc (lastDigits k (n / 10)) (lastDigit n)
 
-pub one-digit : (k n : ℕ) (p : List ℕ) → 1 ≤ k
-    → (p ++ digitBytes (lastDigits (k - 1) (n / 10))) ++ ((48 + n % 10) ∷ []) ≡ p ++ digitBytes (lastDigits k n)
-unfolding lastDigits
-one-digit zero n p h = absurd (not-suc-le-zero h)
-one-digit (suc k) n p h =
-    let e : suc k - 1 ≡ k = omega arith in
-    ap (λ (j : ℕ). (p ++ digitBytes (lastDigits j (n / 10))) ++ ((48 + n % 10) ∷ [])) e
-    ∙ append-assoc p (digitBytes (lastDigits k (n / 10))) ((48 + n % 10) ∷ [])
-    ∙ ap (λ (l : List ℕ). p ++ l) (sym (bytes-snoc (lastDigits k (n / 10)) (lastDigit n)))
-
-digits-length : (k n : ℕ) → length (digitBytes (lastDigits k n)) ≡ k
+pub digits-length : (k n : ℕ) → length (digitBytes (lastDigits k n)) ≡ k
 unfolding lastDigits
 digits-length zero n = refl
 digits-length (suc k) n =
@@ -49,13 +40,6 @@ puts-then t u a r q b c d p s = (
   s .1 ∙ p .1,
   s .2 ∙ ap (λ (l : List ℕ). l ++ u) (p .2) ∙ append-assoc (take a b) t u,
 )
-
-pub put-one : (x a r : ℕ) (b c : List ℕ) → r ≡ a + 1 → length c ≡ length b → take r c ≡ take a b ++ (x ∷ []) → Puts (x ∷ []) a r b c
-put-one x a r b c e f g = (e, f, g)
-
-pub digits-put : (k n a r : ℕ) (b c : List ℕ) → r ≡ a + k → length c ≡ length b → take r c ≡ take a b ++ digitBytes (lastDigits k n)
-    → Puts (digitBytes (lastDigits k n)) a r b c
-digits-put k n a r b c e f g = (let h = digits-length k n in omega arith, f, g)
 
 some-of : (t : Bool) (k r : ℕ) → (1 ≤ k) × (k ≤ 10) → (1 ≤ r) × (r ≤ 10) → (1 ≤ cond t k r) × (cond t k r ≤ 10)
 some-of true k r a b = a
@@ -73,7 +57,8 @@ places-some n =
     (some-of (ltb n 10000000) 7 _ (omega arith)
     (some-of (ltb n 100000000) 8 _ (omega arith) (some-of (ltb n 1000000000) 9 10 (omega arith) (omega arith)))))))))
 
-by-bytes : (m : Bool) (ds : List Digit) (d : Digit) → numberThen (numberBy m (ds ++ (d ∷ []))) [] ≡ signThen m (digitBytes (ds ++ (d ∷ [])))
+by-bytes : (m : Bool) (ds : List Digit) (d : Digit)
+    → numberThen (numberBy m (ds ++ (d ∷ []))) [] ≡ signThen m (digitBytes (ds ++ (d ∷ [])))
 by-bytes m [] d = refl
 by-bytes m (e ∷ ds) d = refl
 
@@ -85,7 +70,7 @@ some-bytes m (suc k) n h = by-bytes m (lastDigits k (n / 10)) (lastDigit n)
 pub number-bytes : (z : ℤ) → numberBytes z ≡ signThen (isMinus z) (digitBytes (lastDigits (places (natAbs z)) (natAbs z)))
 number-bytes z = some-bytes (isMinus z) (places (natAbs z)) (natAbs z) (places-some (natAbs z) .0)
 
-sign-length : (m : Bool) (t : List ℕ) → length (signThen m t) ≤ length t + 1
+pub sign-length : (m : Bool) (t : List ℕ) → length (signThen m t) ≤ length t + 1
 sign-length true t = omega arith
 sign-length false t = omega arith
 
@@ -98,29 +83,34 @@ number-short z =
     let d = places-some n .1 in
     omega arith
 
-pub number-put : (z : ℤ) (m : Bool) (a r : ℕ) (b c : List ℕ) → isMinus z ≡ m
-    → Puts (signThen m (digitBytes (lastDigits (places (natAbs z)) (natAbs z)))) a r b c → Puts (numberBytes z) a r b c
-number-put z m a r b c e p =
-    rw (number-bytes z, e) p
+-- the minus and the digits are the number's bytes
+sign-then : (m : Bool) (t : List ℕ) → signThen m [] ++ t ≡ signThen m t
+sign-then true t = refl
+sign-then false t = refl
 
--- a number's digits by its size and their count, and then with its minus
-module _ (z : ℤ) (n k a r : ℕ) (en : n ≡ natAbs z) (ek : k ≡ places n) where
-  same-digits : digitBytes (lastDigits k n) ≡ digitBytes (lastDigits (places (natAbs z)) (natAbs z))
-  same-digits = ap (λ (j : ℕ). digitBytes (lastDigits j n)) ek ∙ ap (λ (m : ℕ). digitBytes (lastDigits (places m) m)) en
+pub minus-put : (z : ℤ) (a i : ℕ) (b c : List ℕ) → isMinus z ≡ true → Puts (45 ∷ []) a i b c → Puts (signThen (isMinus z) []) a i b c
+minus-put z a i b c e p = rw e p
 
-  pub plain-put : (b d : List ℕ) → isMinus z ≡ false
-      → (r ≡ a + k) × (length d ≡ length b) × (take r d ≡ take a b ++ digitBytes (lastDigits k n)) → Puts (numberBytes z) a r b d
-  plain-put b d e p =
-      number-put z false a r b d e
-      (subst (λ (t : List ℕ). Puts t a r b d) same-digits (digits-put k n a r b d (p .0) (p .1) (p .2)))
+pub plain-put : (z : ℤ) (a i : ℕ) (b c : List ℕ) → isMinus z ≡ false → a < length b → Puts (45 ∷ []) a i b c
+    → Puts (signThen (isMinus z) []) a a b c
+plain-put z a i b c e h p =
+    let x = p .0 in
+    rw e (
+      omega arith,
+      p .1,
+      sym (take-take a i c (omega arith)) ∙ ap (take a) (p .2)
+          ∙ take-at (take a b) (45 ∷ []) a (length-take-le a b (omega arith)) ∙ sym (append-nil (take a b)),
+    )
 
-  pub minus-put : (i : ℕ) (b c d : List ℕ) → isMinus z ≡ true
-      → (i ≡ a + 1) × (length c ≡ length b) × (take i c ≡ take a b ++ (45 ∷ []))
-      → (r ≡ i + k) × (length d ≡ length c) × (take r d ≡ take i c ++ digitBytes (lastDigits k n)) → Puts (numberBytes z) a r b d
-  minus-put i b c d e p q =
-      number-put z true a r b d e
-      (subst (λ (t : List ℕ). Puts (45 ∷ t) a r b d) same-digits
-      (puts-then (45 ∷ []) (digitBytes (lastDigits k n)) a i r b c d p (digits-put k n i r c d (q .0) (q .1) (q .2))))
+pub number-put : (z : ℤ) (n k a i r : ℕ) (b c d : List ℕ) → n ≡ natAbs z → k ≡ places n
+    → Puts (signThen (isMinus z) []) a i b c → Puts (digitBytes (lastDigits k n)) i r c d → Puts (numberBytes z) a r b d
+number-put z n k a i r b c d en ek p q =
+    let t = digitBytes (lastDigits k n) in
+    let same : t ≡ digitBytes (lastDigits (places (natAbs z)) (natAbs z)) =
+    ap (λ (j : ℕ). digitBytes (lastDigits j n)) ek ∙ ap (λ (m : ℕ). digitBytes (lastDigits (places m) m)) en in
+    subst (λ (l : List ℕ). Puts l a r b d)
+    (sign-then (isMinus z) t ∙ ap (signThen (isMinus z)) same ∙ sym (number-bytes z))
+    (puts-then (signThen (isMinus z) []) t a i r b c d p q)
 
 pub pair-put : (k : Corner) (a i j r : ℕ) (b c d e : List ℕ) → Puts (numberBytes (k .x)) a i b c → Puts (32 ∷ []) i j c d
     → Puts (numberBytes (k .y)) j r d e → Puts (pairBytes k) a r b e

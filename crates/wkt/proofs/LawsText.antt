@@ -1,13 +1,13 @@
 -- A text's bytes in their order, and the pairs one after the other. Assumes nothing.
-use Prim.Native.Nat.{ℕ, zero, suc, _+_, _*_, _-_, _≤_, _<_}
+use Prim.Native.Nat.{ℕ, suc, _+_, _*_, _-_, _≤_, _<_}
 use mathlib.Core.Path.{_≡_, refl, sym, ap, _∙_, subst}
 use mathlib.Core.Bool.{Bool, true, false}
 use mathlib.Core.List.{List, [], _∷_, _++_, map, append-assoc, append-nil}
 use native.Mathlib.Omega.{arith}
 use borrow.Author.Tests.{eqb-true, leb-true}
 use lib.Dec.{leb}
-use lib.ListN.{length, take, drop, getD, length-append, length-take, length-drop}
-use lib.Seq.{take-at, take-suc, getD-drop}
+use lib.ListN.{length, take, drop, getD, length-append, length-drop}
+use lib.Seq.{take-all, take-at, take-suc, getD-drop}
 use Rattle.grammar.specs.declared.shape.Kind.{Kind}
 use Rattle.grammar.specs.declared.shape.Kind.the-variants.{Point, LineString, Polygon}
 use Rattle.outline.specs.declared.corners.Corner.{Corner}
@@ -101,12 +101,12 @@ repeat-put k a p q r s t b c d e f g u v w x y =
     (puts-then (32 ∷ []) m p q t c d g v
     (puts-then (pairBytes k) (41 ∷ 41 ∷ []) q r t d e g w (puts-then (41 ∷ []) (41 ∷ []) r s t e f g x y)))
 
-pub text-put : (k : Kind) (n : ℕ) (cs : List Corner) (r s t : ℕ) (b c d e : List ℕ)
-    → Puts (headBytes k ++ pairBytes (getD cs 0 origin)) 0 r b c → Puts (moreBytes (take (n - 1) (drop 1 cs))) r s c d
-    → Puts (closeBytes k (getD cs 0 origin)) s t d e → Puts (orderedBytes k n cs) 0 t b e
-text-put k n cs r s t b c d e u v w =
+pub text-put : (k : Kind) (cs : List Corner) (r s t : ℕ) (b c d e : List ℕ)
+    → Puts (headBytes k ++ pairBytes (getD cs 0 origin)) 0 r b c → Puts (moreBytes (drop 1 cs)) r s c d
+    → Puts (closeBytes k (getD cs 0 origin)) s t d e → Puts (orderedBytes k cs) 0 t b e
+text-put k cs r s t b c d e u v w =
     let f = getD cs 0 origin in
-    let m = moreBytes (take (n - 1) (drop 1 cs)) in
+    let m = moreBytes (drop 1 cs) in
     subst (λ (l : List ℕ). Puts l 0 t b e) (append-assoc (headBytes k) (pairBytes f) (m ++ closeBytes k f))
     (puts-then (headBytes k ++ pairBytes f) (m ++ closeBytes k f) 0 r t b c e u (puts-then m (closeBytes k f) r s t c d e v w))
 
@@ -123,42 +123,43 @@ more-short (c ∷ cs) =
     let h = more-short cs in
     omega arith
 
-pub rest-short : (n : ℕ) (cs : List Corner) → length (moreBytes (take (n - 1) (drop 1 cs))) ≤ 25 * (n - 1)
-rest-short n cs =
-    let l = take (n - 1) (drop 1 cs) in
-    let h = more-short l in
-    let m = length-take (n - 1) (drop 1 cs) in
+pub rest-short : (cs : List Corner) → length (moreBytes (drop 1 cs)) ≤ 25 * (length cs - 1)
+rest-short cs =
+    let h = more-short (drop 1 cs) in
+    let m = length-drop 1 cs in
     omega arith
 
--- the bytes in their order, from the array, are what is written of the corners that it holds
-take-rest : (m : ℕ) (c : Corner) (cs : List Corner) → take (suc m - 1) (drop 1 (c ∷ cs)) ≡ take m cs
-take-rest m c cs = ap (λ (n : ℕ). take n cs) (let e : suc m - 1 ≡ m = omega arith in e)
+-- all of them put
+pub rest-put : (cs : List Corner) (i a r : ℕ) (b d : List ℕ) → length cs ≤ i → Puts (moreBytes (take (i - 1) (drop 1 cs))) a r b d
+    → Puts (moreBytes (drop 1 cs)) a r b d
+rest-put cs i a r b d h p =
+    let m = length-drop 1 cs in
+    subst (λ (l : List Corner). Puts (moreBytes l) a r b d) (take-all (i - 1) (drop 1 cs) (omega arith)) p
 
-module _ (m : ℕ) (c : Corner) (cs : List Corner) where
-  line-ordered : orderedBytes LineString (suc m) (c ∷ cs) ≡ written LineString (c ∷ take m cs)
+-- the bytes in their order are what is written of the corners
+module _ (c : Corner) (cs : List Corner) where
+  line-ordered : orderedBytes LineString (c ∷ cs) ≡ written LineString (c ∷ cs)
   unfolding written
   line-ordered =
-      ap (λ (l : List Corner). headBytes LineString ++ (pairBytes c ++ (moreBytes l ++ (41 ∷ [])))) (take-rest m c cs)
-      ∙ ap (λ (l : List ℕ). headBytes LineString ++ l)
-      (sym (pair-then c (morePairsThen (map (pairAfter 1) (take m cs)) (41 ∷ []))
-      ∙ ap (λ (l : List ℕ). pairBytes c ++ l) (more-then (take m cs) (41 ∷ []))))
+      ap (λ (l : List ℕ). headBytes LineString ++ l)
+      (sym (pair-then c (morePairsThen (map (pairAfter 1) cs) (41 ∷ []))
+      ∙ ap (λ (l : List ℕ). pairBytes c ++ l) (more-then cs (41 ∷ []))))
 
-  ring-end : morePairsThen (map (pairAfter 1) (take m cs ++ (c ∷ []))) (41 ∷ 41 ∷ []) ≡ moreBytes (take m cs) ++ closeBytes Polygon c
+  ring-end : morePairsThen (map (pairAfter 1) (cs ++ (c ∷ []))) (41 ∷ 41 ∷ []) ≡ moreBytes cs ++ closeBytes Polygon c
   ring-end =
-      more-then (take m cs ++ (c ∷ [])) (41 ∷ 41 ∷ []) ∙ ap (λ (l : List ℕ). l ++ (41 ∷ 41 ∷ [])) (more-snoc (take m cs) c)
-      ∙ append-assoc (moreBytes (take m cs)) (44 ∷ 32 ∷ pairBytes c) (41 ∷ 41 ∷ [])
+      more-then (cs ++ (c ∷ [])) (41 ∷ 41 ∷ []) ∙ ap (λ (l : List ℕ). l ++ (41 ∷ 41 ∷ [])) (more-snoc cs c)
+      ∙ append-assoc (moreBytes cs) (44 ∷ 32 ∷ pairBytes c) (41 ∷ 41 ∷ [])
 
-  ring-ordered : orderedBytes Polygon (suc m) (c ∷ cs) ≡ written Polygon (c ∷ take m cs)
+  ring-ordered : orderedBytes Polygon (c ∷ cs) ≡ written Polygon (c ∷ cs)
   unfolding written
   ring-ordered =
-      ap (λ (l : List Corner). headBytes Polygon ++ (pairBytes c ++ (moreBytes l ++ closeBytes Polygon c))) (take-rest m c cs)
-      ∙ ap (λ (l : List ℕ). headBytes Polygon ++ l)
-      (sym (pair-then c (morePairsThen (map (pairAfter 1) (take m cs ++ (c ∷ []))) (41 ∷ 41 ∷ []))
+      ap (λ (l : List ℕ). headBytes Polygon ++ l)
+      (sym (pair-then c (morePairsThen (map (pairAfter 1) (cs ++ (c ∷ []))) (41 ∷ 41 ∷ []))
       ∙ ap (λ (l : List ℕ). pairBytes c ++ l) ring-end))
 
-point-ordered : (c : Corner) (cs : List Corner) → orderedBytes Point 1 (c ∷ cs) ≡ written Point (c ∷ [])
+point-ordered : (c : Corner) → orderedBytes Point (c ∷ []) ≡ written Point (c ∷ [])
 unfolding written
-point-ordered c cs = ap (λ (l : List ℕ). headBytes Point ++ l) (sym (pair-then c (41 ∷ [])))
+point-ordered c = ap (λ (l : List ℕ). headBytes Point ++ l) (sym (pair-then c (41 ∷ [])))
 
 pub some-corners : (k : Kind) (n : ℕ) → shapeFits k n ≡ true → (1 ≤ n) × (n ≤ 64)
 some-corners Point n e = let h = eqb-true n 1 e in (omega arith, omega arith)
@@ -171,17 +172,9 @@ some-corners Polygon n e =
     let a = leb-true 3 n (p .0) in
     (omega arith, leb-true n 64 (p .1))
 
-ordered : (k : Kind) (m : ℕ) (c : Corner) (cs : List Corner) → shapeFits k (suc m) ≡ true
-    → orderedBytes k (suc m) (c ∷ cs) ≡ written k (take (suc m) (c ∷ cs))
-ordered Point m c cs e =
-    let h = eqb-true (suc m) 1 e in
-    let z : m ≡ 0 = omega arith in
-    rw z (point-ordered c cs)
-ordered LineString m c cs e = line-ordered m c cs
-ordered Polygon m c cs e = ring-ordered m c cs
-
-pub ordered-written : (k : Kind) (n : ℕ) (cs : List Corner) → shapeFits k n ≡ true → n ≤ length cs
-    → orderedBytes k n cs ≡ written k (take n cs)
-ordered-written k zero cs e h = absurd (let p = some-corners k 0 e .0 in omega arith)
-ordered-written k (suc m) [] e h = absurd (omega arith)
-ordered-written k (suc m) (c ∷ cs) e h = ordered k m c cs e
+pub ordered-written : (k : Kind) (cs : List Corner) → shapeFits k (length cs) ≡ true → orderedBytes k cs ≡ written k cs
+ordered-written k [] e = absurd (let p = some-corners k 0 e .0 in omega arith)
+ordered-written Point (c ∷ []) e = point-ordered c
+ordered-written Point (c ∷ d ∷ cs) e = absurd (let h = eqb-true (length (c ∷ d ∷ cs)) 1 e in omega arith)
+ordered-written LineString (c ∷ cs) e = line-ordered c cs
+ordered-written Polygon (c ∷ cs) e = ring-ordered c cs

@@ -20,14 +20,12 @@ use Rattle.grammar.specs.Inner.Range.{cornerFits}
 use Rattle.wkt.specs.Inner.Puts.{InRange}
 use Rattle.grammar.proofs.LawsRange.{far-corner}
 
--- no corner beyond the range: each of the first n is within it
-pub in-range : (n : ℕ) (cs : List Corner) → n ≤ length cs → someFar (take n cs) ≡ false → InRange n cs
+-- no corner beyond the range: each is within it
+pub in-range : (cs : List Corner) → someFar cs ≡ false → InRange cs
 unfolding someFar
-in-range zero cs h e j l = absurd (not-suc-le-zero l)
-in-range (suc n) [] h e j l = absurd (not-suc-le-zero h)
-in-range (suc n) (c ∷ cs) h e zero l = not-false (cornerFits c) (sym (far-corner c) ∙ neither (farCorner c) (someFar (take n cs)) e .0)
-in-range (suc n) (c ∷ cs) h e (suc j) l =
-    in-range n cs (le-of-suc-le-suc h) (neither (farCorner c) (someFar (take n cs)) e .1) j (le-of-suc-le-suc l)
+in-range [] e j l = absurd (not-suc-le-zero l)
+in-range (c ∷ cs) e zero l = not-false (cornerFits c) (sym (far-corner c) ∙ neither (farCorner c) (someFar cs) e .0)
+in-range (c ∷ cs) e (suc j) l = in-range cs (neither (farCorner c) (someFar cs) e .1) j (le-of-suc-le-suc l)
 
 -- what was put from the front lies within the bytes
 pub put-within : (t : List ℕ) (r : ℕ) (d : List ℕ) → r ≡ 0 + length t → take r d ≡ t → r ≤ length d

@@ -1,5 +1,5 @@
 -- The bytes of the fixed spelling in the order in which they are put, and what it is to put them.
-use Prim.Native.Nat.{ℕ, _+_, _-_, _<_}
+use Prim.Native.Nat.{ℕ, _+_, _<_}
 use mathlib.Core.Bool.{true}
 use mathlib.Core.List.{List, [], _∷_, _++_}
 use mathlib.Core.Path.{_≡_}
@@ -42,11 +42,11 @@ closeBytes Point c = 41 ∷ []
 closeBytes LineString c = 41 ∷ []
 closeBytes Polygon c = 44 ∷ 32 ∷ (pairBytes c ++ (41 ∷ 41 ∷ []))
 
--- each of the first n is in range
-abbrev pub InRange : ℕ → List Corner → Type 0
-InRange n cs = (j : ℕ) → j < n → cornerFits (getD cs j origin) ≡ true
+-- each is in range
+abbrev pub InRange : List Corner → Type 0
+InRange cs = (j : ℕ) → j < length cs → cornerFits (getD cs j origin) ≡ true
 
--- the bytes of a shape's text, from the array
-abbrev pub orderedBytes : Kind → ℕ → List Corner → List ℕ
-orderedBytes k n cs =
-    headBytes k ++ (pairBytes (getD cs 0 origin) ++ (moreBytes (take (n - 1) (drop 1 cs)) ++ closeBytes k (getD cs 0 origin)))
+-- the bytes of a shape's text
+abbrev pub orderedBytes : Kind → List Corner → List ℕ
+orderedBytes k cs =
+    headBytes k ++ (pairBytes (getD cs 0 origin) ++ (moreBytes (drop 1 cs) ++ closeBytes k (getD cs 0 origin)))

@@ -1,7 +1,8 @@
--- Each refusal in its turn, then the shape's own answer. Assumes nothing.
+-- Half a corner, or the shape's own answer. Assumes nothing.
 use borrow.Author.Needs.{needs}
+use mathlib.Core.Path.{sym, _∙_}
 use denote.Ref.{now}
-use Rattle.texts.proofs.LawsWriting.{lent-odd, lent-many, lent-made}
+use Rattle.texts.proofs.LawsWriting.{lent-odd, lent-even}
 use Rattle.texts.proofs.writing.write_lent.Statement.{statement}
 use Rattle.texts.proofs.writing.write_lent.Tie as tie
 
@@ -12,22 +13,17 @@ returns c =
 
 returns-2 : tie.Need-returns-2
 returns-2 c =
-    let a = c .before .before .before .args in
-    lent-many (a .kind) (now (a .xy)) (now (a .buffer)) (a .offset) (c .before .if1 .left) (c .if2 .taken)
-
-returns-3 : tie.Need-returns-3
-returns-3 c =
-    let a = c .before .before .before .before .before .before .before .before .args in
-    lent-made (a .kind) (now (a .xy)) (now (a .buffer)) (a .offset) (c .before .before .before .before .before .before .if1 .left) _ _ _
-    (c .before .before .before .before .corners-of .ensures) (c .before .before .write .ensures)
+    let f = c .before .before .before .before in
+    let a = f .before .before .args in
+    let l = lent-even (a .kind) (now (a .xy)) (now (a .buffer)) (a .offset) (f .if1 .left) in
+    let w = c .before .before .write-numbers .ensures in
+    (w .0 ∙ sym (l .0), w .1 ∙ sym (l .1))
 
 pub write-lent-spec : {M : Type 1} → statement M
 write-lent-spec =
     tie.close
     (tie.spec
     returns
-    returns-2
-    (λ c κs. search needs)
     (λ c κs. search needs)
     (λ c. search needs)
-    returns-3)
+    returns-2)

@@ -4,8 +4,8 @@ use native.Mathlib.Numerals.{add-one}
 use lib.ListN.{length-set}
 use lib.Seq.{take-suc-set}
 use borrow.Author.Needs.{needs}
-use Rattle.wkt.proofs.writing.put.Statement.{statement}
-use Rattle.wkt.proofs.writing.put.Tie as tie
+use Rattle.wkt.proofs.number.put.Statement.{statement}
+use Rattle.wkt.proofs.number.put.Tie as tie
 
 returns : tie.Need-returns
 returns c = (

@@ -2,8 +2,8 @@
 use mathlib.Core.Path.{sym}
 use borrow.Author.Tests.{lt-ltb, le-ltb}
 use Rattle.wkt.specs.Write.{places}
-use Rattle.wkt.proofs.writing.digits_in.Statement.{statement}
-use Rattle.wkt.proofs.writing.digits_in.Tie as tie
+use Rattle.wkt.proofs.number.digits_in.Statement.{statement}
+use Rattle.wkt.proofs.number.digits_in.Tie as tie
 
 returns : tie.Need-returns
 unfolding places

@@ -1,8 +1,8 @@
 -- The sign turned where there is one. Assumes nothing.
 use borrow.Author.Needs.{needs}
 use Rattle.wkt.proofs.LawsSize.{sub-fits, cast-turned, cast-straight, size-turned}
-use Rattle.wkt.proofs.writing.size_of.Statement.{statement}
-use Rattle.wkt.proofs.writing.size_of.Tie as tie
+use Rattle.wkt.proofs.number.size_of.Statement.{statement}
+use Rattle.wkt.proofs.number.size_of.Tie as tie
 
 sub-result : tie.Need-sub-result
 sub-result c = sub-fits (c .before .args .z) (search needs) (c .before .pre)

@@ -4,8 +4,8 @@ use mir.Syntax.{w32}
 use mir.Val.{SFits}
 use mir.Facts.{toZ-ofZ}
 use Rattle.wkt.proofs.LawsSize.{minus-test}
-use Rattle.wkt.proofs.writing.is_minus.Statement.{statement}
-use Rattle.wkt.proofs.writing.is_minus.Tie as tie
+use Rattle.wkt.proofs.number.is_minus.Statement.{statement}
+use Rattle.wkt.proofs.number.is_minus.Tie as tie
 
 returns : tie.Need-returns
 returns c = let f : SFits w32 (c .args .z) = search needs in rw (toZ-ofZ f) (minus-test (c .args .z))
