@@ -1,13 +1,14 @@
 -- Document 01: "bytes after it don't matter". A record that is whole is answered by its own bytes alone, be it accepted or refused;
 -- and an accepted record used 2 + length of them. Assumes nothing.
 use Prim.Native.Nat.{ℕ, zero, suc, _+_, _*_, _≤_}
-use mathlib.Core.Path.{_≡_, refl, sym, _∙_}
+use mathlib.Core.Path.{_≡_, refl, sym, ap, _∙_}
 use mathlib.Core.Bool.{not}
 use mathlib.Core.List.{List, _++_}
 use native.Mathlib.Omega.{arith}
 use borrow.Author.Tests.{ltb-false, eqb-true, not-false, le-ltb}
 use lib.Dec.{eqb, ltb}
-use lib.ListN.{length, length-append}
+use lib.ListN.{length, take, drop, getD, length-append, take-append-drop}
+use lib.Seq.{length-take-le, getD-take}
 use Rattle.de9im.specs.declared.answer.Answer.the-variants.{Used}
 use Rattle.de9im.specs.declared.refusal.Refusal.the-variants.{Short, Version, Length, Ends}
 use Rattle.plan.specs.EndBytes.{dirAt, endAt, readEnds}
@@ -104,6 +105,14 @@ later-said s t two whole =
 pub later-bytes : (ns s t : List ℕ) → 2 ≤ length s → 2 + promised s ≤ length s → recordOf ns (s ++ t) ≡ recordOf ns s
 unfolding recordOf
 later-bytes ns s t two whole = rw (later-said s t two whole, ← front-promised s t two) refl
+
+-- so a whole record is answered the same when it is cut out
+pub cut-out : (ns s : List ℕ) (n : ℕ) → 2 + promised s ≤ n → n ≤ length s → recordOf ns (take n s) ≡ recordOf ns s
+cut-out ns s n h k =
+    let l : length (take n s) ≡ n = length-take-le n s k in
+    let zeroth : getD (take n s) 0 0 ≡ getD s 0 0 = getD-take n s 0 0 (omega arith) in
+    let first : getD (take n s) 1 0 ≡ getD s 1 0 = getD-take n s 1 0 (omega arith) in
+    sym (later-bytes ns (take n s) (drop n s) (omega arith) (omega arith)) ∙ ap (recordOf ns) (take-append-drop n s)
 
 -- an accepted record is whole, and used all its bytes
 pub record Spent (s : List ℕ) (u : ℕ) : Type 0 where

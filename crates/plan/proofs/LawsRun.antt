@@ -1,10 +1,10 @@
--- Laws of runs of accepted records: a run has one result, and it leaves every cell at least what it was. Assumes nothing.
+-- An accepted record, and any run of records, leaves every cell at least what it was. Assumes nothing.
 use Prim.Native.Nat.{ℕ, _+_, _*_, _≤_, _<_, min}
-use mathlib.Core.Path.{_≡_, refl, sym, ap, subst, subst⁻¹, _∙_}
-use mathlib.Core.List.{List, _∷_}
+use mathlib.Core.Path.{_≡_, refl, sym, ap, subst⁻¹, _∙_}
+use mathlib.Core.List.{List}
 use native.Mathlib.Omega.{arith}
 use lib.ListN.{getD}
-use Rattle.de9im.specs.declared.answer.BytesAnswer.{BytesAnswer}
+use Rattle.de9im.specs.declared.answer.Answer.the-variants.{Used}
 use Rattle.de9im.specs.declared.dimensions.Dimensions.the-variants.{ZeroDimensional}
 use Rattle.de9im.specs.Cells.{cellsOf, matrixOf}
 use Rattle.de9im.specs.Dimension.{dimNo}
@@ -18,20 +18,11 @@ use Rattle.star.specs.Pouring.{pourNode, pourLabel, pourLabels}
 use Rattle.star.specs.Star.{joinedOf}
 use Rattle.star.proofs.LawsPouring.{raise-cell, raise-shape, label-cell, labels-raise}
 use Rattle.frame.specs.Read.{good}
+use Rattle.plan.specs.Floor.{floorOf}
 use Rattle.plan.specs.Record.{pourSaid, recordOf}
-use Rattle.plan.specs.Run.{Accepts, Run, none, then}
 use Rattle.plan.specs.Said.{Said, edge, node, saidOf}
+use Rattle.plan.proofs.LawsFloor.{every-floor}
 use Rattle.plan.proofs.LawsSaid.{says, has-lefts, poured-node}
-
-cells-of-answer : {ns s ms : List ℕ} → Accepts ns s ms → recordOf ns s .cells ≡ ms
-cells-of-answer a = ap (λ (x : BytesAnswer). x .cells) (a .answer)
-
--- a run has one result
-pub one-result : {ns os ps : List ℕ} {rs : List (List ℕ)} → Run ns rs os → Run ns rs ps → os ≡ ps
-one-result none none = refl
-one-result {os = os} {rs = s ∷ rs} (then {ms = ms} a r) (then {ms = ms′} b q) =
-    let e : ms ≡ ms′ = sym (cells-of-answer a) ∙ cells-of-answer b in
-    one-result (subst (λ (l : List ℕ). Run l rs os) e r) q
 
 -- every cell is at least what it was; a number above 3 was read as 3
 abbrev pub Rises : List ℕ → List ℕ → Type 0
@@ -76,16 +67,17 @@ module _ (ns : List ℕ) (P : List ℕ → Type 0) (edge-has : (l : Label) → P
     by-said s (node n es) e =
         subst⁻¹ P (poured-node ns n es (has-lefts s n es e)) (node-has n (completedOf (n .«area_a») (n .«area_b») (joinedOf es)))
 
-    pub accepted-by : (s ms : List ℕ) → Accepts ns s ms → P ms
-    accepted-by s ms a =
-        let x = says ns s (a .used) ms (a .answer) in
+    pub accepted-by : (s : List ℕ) (u : ℕ) → recordOf ns s .answer ≡ Used u → P (recordOf ns s .cells)
+    accepted-by s u e =
+        let x = says ns s u (recordOf ns s .cells) (rw (← e) refl) in
         subst⁻¹ P (x .leaves) (by-said s (x .said) (x .is))
 
 -- an accepted record leaves every cell at least what it was
-pub record-rises : (ns s ms : List ℕ) → Accepts ns s ms → Rises ns ms
-record-rises ns s ms a = accepted-by ns (Rises ns) (label-rises ns) (node-rises ns) s ms a
+pub record-rises : (ns s : List ℕ) (u : ℕ) → recordOf ns s .answer ≡ Used u → Rises ns (recordOf ns s .cells)
+record-rises ns = accepted-by ns (Rises ns) (label-rises ns) (node-rises ns)
 
--- and so does a run
-pub run-rises : {ns os : List ℕ} {rs : List (List ℕ)} → Run ns rs os → Rises ns os
-run-rises {ns = ns} none i j h k = omega arith
-run-rises {ns = ns} (then {s = s} {ms = ms} a r) i j h k = omega (arith, record-rises ns s ms a i j h k, run-rises r i j h k)
+-- and so does a run, be it stopped at a refused record or not
+pub run-rises : (ns s : List ℕ) → Rises ns (floorOf ns s .cells)
+run-rises =
+    every-floor (λ ns s f. Rises ns (f .cells)) (λ ns i j h k. omega arith) (λ ns s r g e i j h k. omega arith) (λ ns s u f e rest i j h k.
+    omega (arith, record-rises ns s u e i j h k, rest i j h k))

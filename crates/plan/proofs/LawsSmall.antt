@@ -140,7 +140,7 @@ kind-few s false true x e =
     omega (arith, eqb-true (promised s) 9 (not-false _ (a .0)))
 kind-few s false false x e = bad-good e
 
-said-few : (s : List ℕ) (x : Said) → saidOf s ≡ good x → promised s ≤ 487
+pub said-few : (s : List ℕ) (x : Said) → saidOf s ≡ good x → promised s ≤ 487
 said-few s x e = kind-few s (eqb (byteAt s 3) 1) (eqb (byteAt s 3) 2) x (is-whole s x e .kind)
 
 -- so an answer is small

@@ -6,6 +6,11 @@ pub mod LawsRecord
 pub mod LawsRecordOrder
 pub mod LawsSaid
 pub mod LawsAfter
-pub mod LawsRun
 pub mod LawsNumbers
+pub mod LawsPart
+pub mod LawsFloor
+pub mod LawsFeeding
+pub mod LawsRun
+pub mod ExamplesFloor
 pub mod LawsSmall
+pub mod LawsLong

@@ -4,6 +4,6 @@ pub mod LabelBytes
 pub mod EndBytes
 pub mod Said
 pub mod Record
-pub mod Run
+pub mod Floor
 pub mod Numbers
 pub mod Inner

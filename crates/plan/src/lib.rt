@@ -1,5 +1,6 @@
 // Plan records: from bytes to nine letters, over the star.
 pub mod end_bytes;
+pub mod floor;
 mod label_bytes;
 mod node_bytes;
 pub mod record;

@@ -1,114 +1,101 @@
--- Document 01, "The program's output", read in bounded memory. The bytes read so far are those used by accepted records and the rest
--- that stands in the buffer; the matrix is the one that the accepted records leave. What a read brings no contract can say, so what
--- is told is stated of the bytes that came.
+-- Document 01, "The program's output": "It reads plan records from standard input into the start matrix; empty input prints that matrix
+-- and its answers. The first refused one makes the whole output one line, `refused 5 at 0` (number, offset of the record)." What a read
+-- brings no contract can say, so what is told is stated of the bytes that came, read by read.
 use Prim.Native.Nat.{ℕ, _+_, _-_, _≤_, _<_}
 use Prim.{Unit}
 use mathlib.Core.Path.{_≡_}
-use mathlib.Core.Bool.{true, cond}
-use mathlib.Core.List.{List, _++_}
+use mathlib.Core.Bool.{Bool, cond}
+use mathlib.Core.List.{List, [], _++_}
 use lib.Dec.{eqb}
-use lib.ListN.{length, take, drop}
 use lib.IntN.{ℤ, pos, negsuc}
+use lib.ListN.{length, take}
+use Rattle.de9im.specs.declared.answer.Checked.{Checked}
+use Rattle.de9im.specs.declared.answer.Checked.the-variants.{Fine, Refused}
+use Rattle.de9im.specs.declared.refusal.Refusal.{Refusal}
 use Rattle.de9im.specs.declared.refusal.Refusal.the-variants.{Short}
+use Rattle.de9im.specs.Bytes.{bytes}
+use Rattle.de9im.specs.Refused.{numberOf}
+use Rattle.de9im.specs.Text.{numbersOf}
+use Rattle.plan.specs.declared.floor.FloorAnswer.{FloorAnswer}
+use Rattle.plan.specs.Floor.{floorOf}
 use Rattle.stream.specs.declared.Told.{Told}
 use Rattle.stream.specs.declared.Told.the-variants as T
 use Rattle.stream.specs.declared.Outcome.{Outcome}
-use Rattle.stream.specs.declared.drain.Drained.{Drained}
-use Rattle.stream.specs.declared.drain.Stop.{Stop}
-use Rattle.stream.specs.declared.drain.Stop.the-variants as S
+use Rattle.pieces.specs.declared.pieces.State.{State}
 use Rattle.stream.specs.declared.reading.Got.{Got}
 use Rattle.stream.specs.declared.reading.Got.the-variants as G
 use Rattle.stream.specs.declared.reading.Next.{Next}
 use Rattle.stream.specs.declared.reading.Next.the-variants as N
-use Rattle.stream.specs.declared.reading.Round.{Round}
-use Rattle.stream.specs.Drain.{isPart, Drains}
-use Rattle.stream.specs.Input.{startCells, Answers, Settled}
+use Rattle.stream.specs.declared.reading.Turn.{Turn}
+use Rattle.stream.specs.Lines.{Prints}
+use Rattle.pieces.specs.Pieces.{countedAs, Holds}
 
--- a part of a record needs more bytes; a refused one is told with its offset
-abbrev pub nextOf : Stop → ℕ → Next
-nextOf S.Part off = N.More
-nextOf (S.Refused r) off = N.Tell (T.Refused r off)
+-- the start matrix
+abbrev pub startCells : List ℕ
+startCells = numbersOf (bytes "FFFFFFFF2")
 
-abbrev pub toldAs : Round → Told → Round
-toldAs t x = record { at = t .at; have = t .have; off = t .off; next = N.Tell x; cells = t .cells }
+-- the answer to all bytes that came, in 64 bits
+abbrev pub answerTo : List ℕ → FloorAnswer
+answerTo bs = countedAs (floorOf startCells bs)
 
--- the input ends: nothing is left, or what is left is refusal 1
-abbrev pub endedAs : Round → Round
-endedAs t = toldAs t (cond (eqb (t .at) (t .have)) T.Accepted (T.Refused Short (t .off)))
+-- what is told where the input ends
+abbrev pub toldBy : Checked → ℕ → Told
+toldBy Fine off = T.Accepted
+toldBy (Refused r) off = T.Refused r off
 
--- the bytes that were read and not used yet
-abbrev pub restOf : List ℕ → Round → List ℕ
-restOf buf t = take (t .have - t .at) (drop (t .at) buf)
+abbrev pub outcomeOf : FloorAnswer → Outcome
+outcomeOf f = record { told = toldBy (f .stop) (f .used); cells = f .cells }
 
--- what read answered, a negative number or a count, and n, that count within the room
-abbrev pub gotOf : ℤ → ℕ → Got
-gotOf (negsuc k) n = G.Failed
-gotOf (pos k) n = cond (eqb n 0) G.End (G.Bytes n)
+abbrev pub unreadable : Outcome
+unreadable = record { told = T.Unreadable; cells = startCells }
+
+-- where more may come: refusal 1 is a part of a record, any other is for good
+abbrev pub nextOf : Checked → Next
+nextOf Fine = N.More
+nextOf (Refused r) = cond (eqb (numberOf r) 1) N.More N.Done
+
+-- what read answered, a negative number or a count, whether a signal came first, and n, that count within the buffer
+abbrev pub gotOf : ℤ → Bool → ℕ → Got
+gotOf (pos k) interrupted n = cond (eqb n 0) G.End (G.Bytes n)
+gotOf (negsuc k) interrupted n = cond interrupted G.Again G.Failed
 
 -- a read brings at least one byte, and no more than there is room for
-abbrev pub Fits : ℕ → ℕ → Got → Type 0
-Fits have room (G.Bytes n) = (0 < n) × (have + n ≤ room)
-Fits have room G.End = Unit {0}
-Fits have room G.Failed = Unit {0}
+abbrev pub Fits : ℕ → Got → Type 0
+Fits room (G.Bytes n) = (0 < n) × (n ≤ room)
+Fits room G.End = Unit {0}
+Fits room G.Again = Unit {0}
+Fits room G.Failed = Unit {0}
 
--- before a turn: the rest is a part of a record, and it lies in the buffer
-pub record Standing (buf : List ℕ) (t : Round) : Type 0 where
-  pub room : length buf ≡ 131072
-  pub order : t .at ≤ t .have
-  pub full : t .have ≤ 131072
-  pub short : t .have < t .at + 65537
-  pub near : t .off ≤ 9223372036854906880
-  pub part : isPart (restOf buf t) ≡ true
-
--- the same rest, with room behind it
-pub record Ready (before : List ℕ) (t : Round) (after : List ℕ) (r : Round) : Type 0 where
-  pub room : length after ≡ 131072
-  pub order : r .at ≤ r .have
-  pub space : r .have < 131072
-  pub count : r .have - r .at ≡ t .have - t .at
-  pub rest : restOf after r ≡ restOf before t
-  pub off : r .off ≡ t .off
-  pub cells : r .cells ≡ t .cells
-
--- n bytes more, drained
-pub record Taken (buf : List ℕ) (t : Round) (n : ℕ) (r : Round) : Type 0 where
-  pub drained : Drained
-  pub drains : Drains (t .cells) (take (t .have + n - t .at) (drop (t .at) buf)) drained
-  pub fits : t .at + drained .used ≤ t .have + n
-  pub short : drained .stop ≡ S.Part → t .have + n < t .at + drained .used + 65537
-  pub at : r .at ≡ t .at + drained .used
-  pub have : r .have ≡ t .have + n
-  pub off : r .off ≡ t .off + drained .used
-  pub next : r .next ≡ nextOf (drained .stop) (t .off + drained .used)
-  pub cells : r .cells ≡ drained .cells
+-- bytes that came: the state stands for them too
+pub record Taken (s : State) (new : List ℕ) (r : Turn) : Type 0 where
+  pub holds : (ns bs : List ℕ) → Holds ns bs s → Holds ns (bs ++ new) (r .state)
+  pub next : (ns bs : List ℕ) → Holds ns bs s → r .next ≡ nextOf (floorOf ns (bs ++ new) .stop)
 
 -- what follows from a read: only the end of the input is told as one
-abbrev pub Follows : List ℕ → Round → Got → Round → Type 0
-Follows buf t (G.Bytes n) r = Taken buf t n r
-Follows buf t G.End r = r ≡ endedAs t
-Follows buf t G.Failed r = r ≡ toldAs t T.Unreadable
+abbrev pub Follows : State → List ℕ → Got → Turn → Type 0
+Follows s buf (G.Bytes n) r = Taken s (take n buf) r
+Follows s buf G.End r = r ≡ record { next = N.Done; state = s }
+Follows s buf G.Again r = r ≡ record { next = N.More; state = s }
+Follows s buf G.Failed r = r ≡ record { next = N.Broken; state = s }
 
--- after a turn that goes on: new bytes came, and the answer to the rest is the answer to what was there with the new bytes
-pub record Goes (before : List ℕ) (t : Round) (after : List ℕ) (r : Round) : Type 0 where
-  pub standing : Standing after r
-  pub new : List ℕ
-  pub further : t .off + (t .have - t .at) < r .off + (r .have - r .at)
-  pub answers : (more : List ℕ) (o : Outcome) → Answers (r .cells) (r .off) (restOf after r ++ more) o
-      → Answers (t .cells) (t .off) (restOf before t ++ (new ++ more)) o
+-- how many reads there may be; at a read a nanosecond they take 292 years
+abbrev pub mostReads : ℕ
+mostReads = 9223372036854775808
 
--- after a turn that tells: it is settled by what was there with the new bytes
-pub record Tells (before : List ℕ) (t : Round) (x : Told) (cells : List ℕ) : Type 0 where
-  pub new : List ℕ
-  pub settled : Settled (t .cells) (t .off) (restOf before t ++ new) (record { told = x; cells = cells })
+-- what is told after the bytes that came so far, with n reads left. A read brings bytes, the end of the input, a signal or a failure; a
+-- record refused for good ends it, whatever would follow.
+pub data Tells : ℕ → List ℕ → Outcome → Type 0 where
+  brought : {n : ℕ} {bs : List ℕ} {o : Outcome} (new : List ℕ) → 0 < n → 0 < length new
+      → nextOf (floorOf startCells (bs ++ new) .stop) ≡ N.More → Tells (n - 1) (bs ++ new) o → Tells n bs o
+  refused : {n : ℕ} {bs : List ℕ} (new : List ℕ) → 0 < n → 0 < length new
+      → nextOf (floorOf startCells (bs ++ new) .stop) ≡ N.Done → Tells n bs (outcomeOf (answerTo (bs ++ new)))
+  ended : {n : ℕ} {bs : List ℕ} → 0 < n → Tells n bs (outcomeOf (answerTo bs))
+  interrupted : {n : ℕ} {bs : List ℕ} {o : Outcome} → 0 < n → Tells (n - 1) bs o → Tells n bs o
+  failed : {n : ℕ} {bs : List ℕ} → 0 < n → Tells n bs unreadable
+  worn : {bs : List ℕ} → Tells 0 bs unreadable
 
-abbrev pub After : List ℕ → Round → List ℕ → Round → Next → Type 0
-After before t after r N.More = Goes before t after r
-After before t after r (N.Tell x) = Tells before t x (r .cells)
-
-abbrev pub Turned : List ℕ → Round → List ℕ → Round → Type 0
-Turned before t after r = After before t after r (r .next)
-
--- what is told is settled by the bytes that came
-pub record Read (o : Outcome) : Type 0 where
-  pub bytes : List ℕ
-  pub settled : Settled startCells 0 bytes o
+-- what is printed: the lines of what is told, from the start
+pub record Printed (text : List ℕ) : Type 0 where
+  pub outcome : Outcome
+  pub tells : Tells mostReads [] outcome
+  pub prints : Prints outcome text

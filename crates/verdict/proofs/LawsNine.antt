@@ -1,13 +1,14 @@
 -- Nine records are needed: from FFFFFFFFF the pattern 000000000 is open, and no shorter run makes it yes. A record that leaves every
 -- cell at most 0 raises at most one of them. Assumes nothing.
-use Prim.Native.Nat.{ℕ, suc, _+_, _*_, _≤_, _<_, min, max}
+use Prim.Native.Nat.{ℕ, _+_, _*_, _≤_, _<_, min, max}
 use mathlib.Core.Path.{_≡_, refl, ap, _∙_}
 use mathlib.Core.Bool.{Bool, true, false, cond, _&&_}
 use mathlib.Core.List.{List, [], _∷_}
 use native.Mathlib.Omega.{arith}
 use borrow.Author.Tests.{eqb-true}
 use lib.Dec.{eqb}
-use lib.ListN.{length, getD}
+use lib.ListN.{getD}
+use Rattle.de9im.specs.declared.answer.Answer.the-variants.{Used}
 use Rattle.de9im.specs.declared.dimensions.Dimensions.the-variants.{ZeroDimensional}
 use Rattle.de9im.specs.declared.«coordinate_position».Position.{Position}
 use Rattle.de9im.specs.declared.«coordinate_position».Position.the-variants.{None, Inside, OnBoundary, Outside}
@@ -24,8 +25,11 @@ use Rattle.star.specs.declared.label.Label.{Label}
 use Rattle.star.specs.Pouring.{pourNode, pourLabel, pourLabels, into, labelInto, labelsInto}
 use Rattle.star.proofs.LawsPouring.{raise-cell, raise-shape, label-cell, labels-cell}
 use Rattle.star.specs.declared.pouring.Node.{Node}
-use Rattle.plan.specs.Run.{Accepts, Run, none, then}
-use Rattle.plan.proofs.LawsRun.{given-cell, accepted-by, run-rises}
+use Rattle.plan.specs.declared.floor.FloorAnswer.{FloorAnswer}
+use Rattle.plan.specs.Floor.{behind, floorOf}
+use Rattle.plan.specs.Record.{recordOf}
+use Rattle.plan.proofs.LawsFloor.{every-floor}
+use Rattle.plan.proofs.LawsRun.{Rises, given-cell, accepted-by, record-rises}
 use Rattle.verdict.specs.declared.Verdict.the-variants.{Open}
 use Rattle.verdict.specs.Means.{Means, matchOf}
 use Rattle.verdict.specs.Inner.Table.{every}
@@ -130,18 +134,30 @@ module _ (ns : List ℕ) where
       one : (c old y : ℕ) → c ≤ old + y → y ≤ 1 → c ≤ old + 1
       one c old y h k = omega arith
 
-record-adds : {ns s ms : List ℕ} → Accepts ns s ms → Small ms → sum (readIn ms) ≤ sum (readIn ns) + 1
-record-adds {ns} {s} {ms} a = accepted-by ns (AddsOne ns) (edge-adds ns) (node-adds ns) s ms a
+record-adds : (ns s : List ℕ) (u : ℕ) → recordOf ns s .answer ≡ Used u → AddsOne ns (recordOf ns s .cells)
+record-adds ns = accepted-by ns (AddsOne ns) (edge-adds ns) (node-adds ns)
 
--- so a run raises at most as many cells as it has records
-run-adds : {ns os : List ℕ} {rs : List (List ℕ)} → Run ns rs os → Small os → sum (readIn os) ≤ sum (readIn ns) + length rs
-run-adds none small = omega arith
-run-adds {ns} {os} (then {ms = ms} {rs = rs} a r) small =
-    add (sum (readIn os)) (sum (readIn ms)) (sum (readIn ns)) (length rs) (run-adds r small)
-    (record-adds a (λ i j h k. omega (arith, run-rises r i j h k, small i j h k)))
+-- so a run raises at most as many cells as it has accepted records
+abbrev Adds : List ℕ → FloorAnswer → Type 0
+Adds ns f = Rises ns (f .cells) × (Small (f .cells) → sum (readIn (f .cells)) ≤ sum (readIn ns) + f .records)
+
+run-adds : (ns s : List ℕ) → Adds ns (floorOf ns s)
+run-adds =
+    every-floor (λ ns s f. Adds ns f) (λ ns. (λ i j h k. omega arith, λ small. omega arith))
+    (λ ns s r h e. (λ i j h k. omega arith, λ small. omega arith)) later
   where
-    add : (x y z n : ℕ) → x ≤ y + n → y ≤ z + 1 → x ≤ z + suc n
+    add : (x y z n : ℕ) → x ≤ y + n → y ≤ z + 1 → x ≤ z + (1 + n)
     add x y z n h k = omega arith
+
+    later : (ns s : List ℕ) (u : ℕ) (f : FloorAnswer) → recordOf ns s .answer ≡ Used u → Adds (recordOf ns s .cells) f
+        → Adds ns (behind u 1 f)
+    later ns s u f e (rises, adds-all) =
+        let ms = recordOf ns s .cells in (
+          λ i j h k. omega (arith, record-rises ns s u e i j h k, rises i j h k),
+          λ small.
+              add (sum (readIn (f .cells))) (sum (readIn ms)) (sum (readIn ns)) (f .records) (adds-all small)
+              (record-adds ns s u e (λ i j h k. omega (arith, rises i j h k, small i j h k))),
+        )
 
 -- the pattern that asks for 0 in every cell
 abbrev pub allPoints : List ℕ
@@ -179,10 +195,10 @@ yes-points os e k h =
     omega (arith, at k h, numbers-at allPoints os all-good os k h)
 
 -- and no run of fewer than nine does
-pub nine-needed : (rs : List (List ℕ)) (os : List ℕ) → Run nineZeros rs os → matchOf allPoints os ≡ true → 9 ≤ length rs
-nine-needed rs os r e =
-    let at = yes-points os e in
-    let nine : sum (readIn os) ≡ 9 =
+pub nine-needed : (s : List ℕ) → matchOf allPoints (floorOf nineZeros s .cells) ≡ true → 9 ≤ floorOf nineZeros s .records
+nine-needed s e =
+    let at = yes-points (floorOf nineZeros s .cells) e in
+    let nine : sum (readIn (floorOf nineZeros s .cells)) ≡ 9 =
     rw (
       at 0 (omega arith),
       at 1 (omega arith),
@@ -194,5 +210,5 @@ nine-needed rs os r e =
       at 7 (omega arith),
       at 8 (omega arith),
     ) refl in
-    let few = rw nine at (run-adds r (λ i j h k. omega (arith, at (3 * i + j) (omega arith)))) in
+    let few = rw nine at (run-adds nineZeros s .1 (λ i j h k. omega (arith, at (3 * i + j) (omega arith)))) in
     omega (arith, few)

@@ -158,7 +158,7 @@ module _ (ns : List ℕ) where
   intersects-sound =
       by-test (answerOf Intersects) Open YesForGood (disjoint m) (disjoint m) refl
       (λ e. opens Intersects (only 0) none refl (simp (dim-back, e)))
-      (λ e rs os b r. ap not (apart-closed e rs os b r))
+      (λ e s b r. ap not (apart-closed e s b r))
 
   -- two cells that must be F
   module _ (p : Predicate) (j k : ℕ) (h : j < 9) (l : k < 9) (f : Asks p j) (g : Asks p k) where

@@ -6,7 +6,8 @@ use mathlib.Core.List.{List, [], _∷_}
 use native.Mathlib.Omega.{arith}
 use borrow.Author.Tests.{eqb-true, eqb-false, eq-eqb, ne-eqb}
 use lib.Dec.{eqb, ltb}
-use lib.ListN.{getD}
+use lib.ListN.{length, getD}
+use Rattle.de9im.specs.declared.answer.Answer.the-variants.{Used}
 use Rattle.de9im.specs.declared.dimensions.Dimensions.{Dimensions}
 use Rattle.de9im.specs.declared.dimensions.Dimensions.the-variants.{Empty, ZeroDimensional, OneDimensional, TwoDimensional}
 use Rattle.de9im.specs.declared.«coordinate_position».Coded.the-variants.{Is}
@@ -27,7 +28,6 @@ use Rattle.star.proofs.LawsPouring.{raise-cell}
 use Rattle.plan.specs.EndBytes.{readEnds}
 use Rattle.plan.specs.LabelBytes.{sidesAt, labelAt}
 use Rattle.plan.specs.Record.{recordOf}
-use Rattle.plan.specs.Run.{Accepts}
 use Rattle.plan.specs.Said.{edgeOf, nodeAt, nodeBody, nodeOf, saidOf}
 use Rattle.plan.proofs.LawsRun.{given-cell}
 use Rattle.verdict.specs.Means.{isBytes}
@@ -69,13 +69,14 @@ raiser-bytes p q TwoDimensional = simp code-byte
 
 -- it is accepted, and raises
 pub raiser-accepted : (ns : List ℕ) (p q : CoordPos) (d : Dimensions) → 0 < dimNo d
-    → Accepts ns (raiser d p q) (cellsOf (atLeastOf (matrixOf ns) (known p) (known q) d))
+    → recordOf ns (raiser d p q)
+    ≡ record { answer = Used (length (raiser d p q)); cells = cellsOf (atLeastOf (matrixOf ns) (known p) (known q) d) }
 unfolding recordOf saidOf nodeOf nodeBody nodeAt edgeOf labelAt sidesAt readEnds pouredStar completedStar
     missingLeft any walkOf startOf filledOf dirsFrom pourNode pourLabel pourLabels
 raiser-accepted ns p q Empty h = absurd (omega arith)
-raiser-accepted ns p q ZeroDimensional h = record { used = 9; answer = simp (code-back, is-known) }
-raiser-accepted ns p q OneDimensional h = record { used = 11; answer = simp code-back }
-raiser-accepted ns p q TwoDimensional h = record { used = 11; answer = simp code-back }
+raiser-accepted ns p q ZeroDimensional h = simp (code-back, is-known)
+raiser-accepted ns p q OneDimensional h = simp code-back
+raiser-accepted ns p q TwoDimensional h = simp code-back
 
 -- the position of a row or column
 abbrev pub posOf : ℕ → CoordPos

@@ -3,20 +3,25 @@
 use Prim.Native.Nat.{ℕ, zero, suc, _+_, _*_, _-_, _/_, _%_, _≤_, _<_, min, max}
 use mathlib.Core.Path.{_≡_, refl, sym, ap, _∙_}
 use mathlib.Core.Bool.{Bool, true, false, cond}
-use mathlib.Core.List.{List, [], _∷_}
+use mathlib.Core.List.{List, [], _++_}
 use native.Mathlib.Omega.{arith}
 use borrow.Author.Tests.{eqb-true, eqb-false}
 use lib.Dec.{eqb}
 use lib.ListN.{length, getD}
+use Rattle.de9im.specs.declared.answer.BytesAnswer.{BytesAnswer}
+use Rattle.de9im.specs.declared.answer.Checked.the-variants.{Fine}
 use Rattle.de9im.specs.Cells.{matrixOf}
 use Rattle.de9im.specs.Dimension.{dimNo, dimOf}
 use Rattle.de9im.specs.Matrix.{Matrix}
 use Rattle.de9im.specs.Text.{nine}
 use Rattle.de9im.proofs.LawsDimension.{dim-back, number-back}
 use Rattle.de9im.proofs.LawsForms.{nine-at}
-use Rattle.plan.specs.Run.{Run, none, then}
+use Rattle.plan.specs.declared.floor.FloorAnswer.{FloorAnswer}
+use Rattle.plan.specs.Floor.{behind, floorOf}
+use Rattle.plan.proofs.LawsFloor.{floor-empty, floor-then}
 use Rattle.plan.proofs.LawsRun.{run-rises}
-use Rattle.verdict.specs.Means.{areBytes, Always, Sometimes}
+use Rattle.verdict.specs.Means.{isBytes, Always, Sometimes}
+use Rattle.verdict.proofs.LawsBytes.{bytes-both}
 use Rattle.verdict.proofs.LawsRaise.{raiserAt, raisedAt, raiser-bytes, raiser-accepted, raised-cell, posOf}
 
 -- what a number is read as
@@ -51,12 +56,11 @@ read-same ns ts h =
 
 -- a run to numbers that are read as ts
 pub record Reached (ns ts : List ℕ) (n : ℕ) : Type 0 where
-  pub records : List (List ℕ)
-  pub after : List ℕ
-  pub bytes : areBytes records ≡ true
-  pub accepted : Run ns records after
-  pub few : length records ≤ n
-  pub same : (k : ℕ) → k < 9 → readAt after k ≡ getD ts k 0
+  pub run : List ℕ
+  pub bytes : isBytes run ≡ true
+  pub accepted : floorOf ns run .stop ≡ Fine
+  pub few : floorOf ns run .records ≤ n
+  pub same : (k : ℕ) → k < 9 → readAt (floorOf ns run .cells) k ≡ getD ts k 0
 
 -- cell c = 8 - n, the ones before it being reached and the n after it left: a record only where the number is larger
 module _ (n : ℕ) (ns ts : List ℕ) (h : n < 9) (a : Above ns ts) (done : (k : ℕ) → k + suc n < 9 → readAt ns k ≡ getD ts k 0)
@@ -103,34 +107,40 @@ module _ (n : ℕ) (ns ts : List ℕ) (h : n < 9) (a : Above ns ts) (done : (k :
     ns-done z k l true e = rw (eqb-true k c e) (eqb-true (readAt ns c) v z)
     ns-done z k l false e = let f = eqb-false k c e in done k (omega arith)
 
+    record-first : eqb (readAt ns c) v ≡ false → (s : List ℕ)
+        → floorOf ns (raiserAt c (dimOf v) ++ s) ≡ behind (length (raiserAt c (dimOf v))) 1 (floorOf ms s)
+    record-first e s =
+        let f = eqb-false (readAt ns c) v e in
+        let a = raiser-accepted ns (posOf (c / 3)) (posOf (c % 3)) (dimOf v) (omega (arith, is-v, a .low c (omega arith))) in
+        floor-then ns (raiserAt c (dimOf v)) s (ap (λ (x : BytesAnswer). x .answer) a) ∙
+        ap (λ (x : BytesAnswer). behind (length (raiserAt c (dimOf v))) 1 (floorOf (x .cells) s)) a
+
     one-cell : (t : Bool) → eqb (readAt ns c) v ≡ t → Reached ns ts (suc n)
     one-cell true e =
         let r = rest ns a (λ k l. ns-done e k l (eqb k c) refl) in
-        record {
-          records = r .records;
-          after = r .after;
-          bytes = r .bytes;
-          accepted = r .accepted;
-          few = omega (arith, r .few);
-          same = r .same;
-        }
+        record { run = r .run; bytes = r .bytes; accepted = r .accepted; few = omega (arith, r .few); same = r .same }
     one-cell false e =
         let r = rest ms (record { low = λ k l. ms-low k l (eqb k c) refl; top = a .top }) (λ k l. ms-done k l (eqb k c) refl) in
-        let f = eqb-false (readAt ns c) v e in
+        let f = record-first e (r .run) in
         record {
-          records = raiserAt c (dimOf v) ∷ r .records;
-          after = r .after;
-          bytes = simp (raiser-bytes (posOf (c / 3)) (posOf (c % 3)) (dimOf v)) (r .bytes);
-          accepted = then (raiser-accepted ns (posOf (c / 3)) (posOf (c % 3)) (dimOf v) (omega (arith, is-v, a .low c (omega arith))))
-              (r .accepted);
-          few = omega (arith, r .few);
-          same = r .same;
+          run = raiserAt c (dimOf v) ++ r .run;
+          bytes = bytes-both (raiserAt c (dimOf v)) (r .run) (raiser-bytes (posOf (c / 3)) (posOf (c % 3)) (dimOf v)) (r .bytes);
+          accepted = ap (λ (x : FloorAnswer). x .stop) f ∙ r .accepted;
+          few = omega (arith, ap (λ (x : FloorAnswer). x .records) f, r .few);
+          same = λ k l. ap (λ (x : FloorAnswer). readAt (x .cells) k) f ∙ r .same k l;
         }
 
 -- the last n cells, one after the other
 last-cells : (n : ℕ) (ns ts : List ℕ) → n ≤ 9 → Above ns ts → ((k : ℕ) → k + n < 9 → readAt ns k ≡ getD ts k 0) → Reached ns ts n
 last-cells zero ns ts h a done =
-    record { records = []; after = ns; bytes = refl; accepted = none; few = omega arith; same = λ k l. done k (omega arith) }
+    let e = floor-empty ns in
+    record {
+      run = [];
+      bytes = refl;
+      accepted = ap (λ (x : FloorAnswer). x .stop) e;
+      few = omega (arith, ap (λ (x : FloorAnswer). x .records) e);
+      same = λ k l. ap (λ (x : FloorAnswer). readAt (x .cells) k) e ∙ done k (omega arith);
+    }
 last-cells (suc n) ns ts h a done =
     one-cell n ns ts (omega arith) a done (λ ms b d. last-cells n ms ts (omega arith) b d)
     (eqb (readAt ns (8 - n)) (getD ts (8 - n) 0)) refl
@@ -140,38 +150,40 @@ pub reaches : (ns ts : List ℕ) → Above ns ts → Reached ns ts 9
 reaches ns ts a = last-cells 9 ns ts (omega arith) a (λ k l. absurd (omega arith))
 
 -- and whatever is reached is above
-pub reached-above : {ns os : List ℕ} {rs : List (List ℕ)} → Run ns rs os → Above ns (nine (readAt os))
-reached-above {ns} {os} r =
+pub reached-above : (ns s : List ℕ) → Above ns (nine (readAt (floorOf ns s .cells)))
+reached-above ns s =
+    let os = floorOf ns s .cells in
     record {
       low = λ k l.
           let e : 3 * (k / 3) + k % 3 ≡ k = omega arith in
-          omega (arith, nine-at (readAt os) k l, rw e at (run-rises r (k / 3) (k % 3) (omega arith) (omega arith)));
+          omega (arith, nine-at (readAt os) k l, rw e at (run-rises ns s (k / 3) (k % 3) (omega arith) (omega arith)));
       top = λ k l. omega (arith, nine-at (readAt os) k l);
     }
 
 -- so a run's result is read as ts exactly when ts is above
 pub reached-only : {ns ts : List ℕ} {n : ℕ} → Reached ns ts n → Above ns ts
-reached-only r =
-    let a = reached-above (r .accepted) in
+reached-only {ns = ns} r =
+    let a = reached-above ns (r .run) in
     record {
-      low = λ k l. omega (arith, a .low k l, nine-at (readAt (r .after)) k l, r .same k l);
+      low = λ k l. omega (arith, a .low k l, nine-at (readAt (floorOf ns (r .run) .cells)) k l, r .same k l);
       top = λ k l. omega (arith, r .same k l);
     }
 
 -- a verdict over nine numbers: an answer goes by the matrix that they stand for
 module _ (answer : Matrix → Bool) (y : Bool) (ns : List ℕ) where
   pub always : ((ts : List ℕ) → Above ns ts → answer (matrixOf ts) ≡ y) → Always (λ os. answer (matrixOf os)) y ns
-  always f rs os b r =
-      ap answer (read-same os (nine (readAt os)) (λ k l. omega (arith, nine-at (readAt os) k l))) ∙ f (nine (readAt os)) (reached-above r)
+  always f s b e =
+      let os = floorOf ns s .cells in
+      ap answer (read-same os (nine (readAt os)) (λ k l. omega (arith, nine-at (readAt os) k l))) ∙
+      f (nine (readAt os)) (reached-above ns s)
 
   pub sometimes : (ts : List ℕ) → Above ns ts → answer (matrixOf ts) ≡ y → Sometimes (λ os. answer (matrixOf os)) y ns
   sometimes ts a e =
       let r = reaches ns ts a in
       record {
-        records = r .records;
-        after = r .after;
+        run = r .run;
         bytes = r .bytes;
         accepted = r .accepted;
         few = r .few;
-        says = ap answer (read-same (r .after) ts (λ k l. omega (arith, r .same k l, a .top k l))) ∙ e;
+        says = ap answer (read-same (floorOf ns (r .run) .cells) ts (λ k l. omega (arith, r .same k l, a .top k l))) ∙ e;
       }

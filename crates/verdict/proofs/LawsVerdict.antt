@@ -2,8 +2,13 @@
 use Prim.Native.Nat.{ℕ}
 use mathlib.Core.Path.{_≡_, refl, sym, ap, subst, _∙_}
 use mathlib.Core.Bool.{Bool, true, false}
-use mathlib.Core.List.{List, [], _∷_}
-use Rattle.plan.specs.Run.{Accepts, none, then}
+use mathlib.Core.List.{List, [], _++_}
+use lib.ListN.{length, take}
+use Rattle.plan.specs.declared.floor.FloorAnswer.{FloorAnswer}
+use Rattle.plan.specs.Floor.{behind, floorOf}
+use Rattle.plan.proofs.LawsFloor.{floor-empty, floor-before, floor-joined}
+use Rattle.verdict.proofs.LawsBytes.{bytes-both, bytes-front}
+use Rattle.de9im.specs.declared.answer.Checked.the-variants.{Fine}
 use Rattle.de9im.specs.declared.refusal.Refusal.{Refusal}
 use Rattle.de9im.specs.declared.answer.Checked.{Checked}
 use Rattle.de9im.specs.declared.answer.Checked.the-variants as C
@@ -23,16 +28,20 @@ use Rattle.de9im.proofs.LawsApart.{impossible, fine-refused}
 module _ (answer : List ℕ → Bool) (ns : List ℕ) where
   -- what every run ends in, none can end otherwise in
   yes-never : {A : Type 0} → Always answer true ns → Sometimes answer false ns → A
-  yes-never f s = clash (f (s .records) (s .after) (s .bytes) (s .accepted)) (s .says)
+  yes-never f s = clash (f (s .run) (s .bytes) (s .accepted)) (s .says)
 
   no-never : {A : Type 0} → Always answer false ns → Sometimes answer true ns → A
-  no-never f s = clash (s .says) (f (s .records) (s .after) (s .bytes) (s .accepted))
+  no-never f s = clash (s .says) (f (s .run) (s .bytes) (s .accepted))
+
+  -- no bytes are an accepted run
+  none : floorOf ns [] .stop ≡ Fine
+  none = ap (λ (x : FloorAnswer). x .stop) (floor-empty ns)
 
   pub one-verdict : (v w : Verdict) → Means v answer ns → Means w answer ns → v ≡ w
   one-verdict YesForGood YesForGood f g = refl
-  one-verdict YesForGood NoForGood f g = clash (f [] ns refl none) (g [] ns refl none)
+  one-verdict YesForGood NoForGood f g = clash (f [] refl none) (g [] refl none)
   one-verdict YesForGood Open f g = yes-never f (g .ends-no)
-  one-verdict NoForGood YesForGood f g = clash (g [] ns refl none) (f [] ns refl none)
+  one-verdict NoForGood YesForGood f g = clash (g [] refl none) (f [] refl none)
   one-verdict NoForGood NoForGood f g = refl
   one-verdict NoForGood Open f g = no-never f (g .ends-yes)
   one-verdict Open YesForGood f g = yes-never g (f .ends-no)
@@ -43,22 +52,30 @@ module _ (answer : List ℕ → Bool) (ns : List ℕ) where
   pub exactly-when : (v w : Verdict) → Means v answer ns → (v ≡ w → Means w answer ns) × (Means w answer ns → v ≡ w)
   exactly-when v w f = (λ e. subst (λ (x : Verdict). Means x answer ns) e f, one-verdict v w f)
 
--- what every run ends in, every run after one more record ends in
-pub always-stays : (answer : List ℕ → Bool) (y : Bool) (ns s ms : List ℕ) → isBytes s ≡ true → Accepts ns s ms → Always answer y ns
-    → Always answer y ms
-always-stays answer y ns s ms h a f rs os b r = f (s ∷ rs) os (simp h b) (then a r)
+-- what every run ends in, every run after another ends in, be that one stopped at a refused record or not
+pub always-stays : (answer : List ℕ → Bool) (y : Bool) (ns s : List ℕ) → isBytes s ≡ true → Always answer y ns
+    → Always answer y (floorOf ns s .cells)
+always-stays answer y ns s h a t b e =
+    let f = floorOf ns s in
+    let front = take (f .used) s in
+    let fine = floor-before ns s in
+    let j : floorOf ns (front ++ t) ≡ behind (length front) (f .records) (floorOf (f .cells) t) =
+    floor-joined ns front t (ap (λ (x : FloorAnswer). x .stop) fine) ∙
+    ap (λ (x : FloorAnswer). behind (length front) (x .records) (floorOf (x .cells) t)) fine in
+    let w = a (front ++ t) (bytes-both front t (bytes-front (f .used) s h) b) (ap (λ (x : FloorAnswer). x .stop) j ∙ e) in
+    ap (λ (x : FloorAnswer). answer (x .cells)) (sym j) ∙ w
 
--- so a verdict for good stays after any accepted record
-pub stays : (answer : List ℕ → Bool) (v w : Verdict) (ns s ms : List ℕ) → (v ≡ Open → ⊥) → isBytes s ≡ true → Accepts ns s ms
-    → Means v answer ns → Means w answer ms → w ≡ v
-stays answer YesForGood w ns s ms h b a f g = one-verdict answer ms w YesForGood g (always-stays answer true ns s ms b a f)
-stays answer NoForGood w ns s ms h b a f g = one-verdict answer ms w NoForGood g (always-stays answer false ns s ms b a f)
-stays answer Open w ns s ms h b a f g = absurd (h refl)
+-- so a verdict for good stays after any run, and one accepted record is one (`floor-one`)
+pub stays : (answer : List ℕ → Bool) (v w : Verdict) (ns s : List ℕ) → (v ≡ Open → ⊥) → isBytes s ≡ true → Means v answer ns
+    → Means w answer (floorOf ns s .cells) → w ≡ v
+stays answer YesForGood w ns s h b f g = one-verdict answer (floorOf ns s .cells) w YesForGood g (always-stays answer true ns s b f)
+stays answer NoForGood w ns s h b f g = one-verdict answer (floorOf ns s .cells) w NoForGood g (always-stays answer false ns s b f)
+stays answer Open w ns s h b f g = absurd (h refl)
 
 -- of a pattern too
-pub judged-stays : (p : List ℕ) (v w : Verdict) (ns s ms : List ℕ) → (v ≡ Open → ⊥) → isBytes s ≡ true → Accepts ns s ms
-    → Judges (Is v) p ns → Judges (Is w) p ms → w ≡ v
-judged-stays p v w ns s ms h b a f g = stays (matchOf p) v w ns s ms h b a (f .means) (g .means)
+pub judged-stays : (p : List ℕ) (v w : Verdict) (ns s : List ℕ) → (v ≡ Open → ⊥) → isBytes s ≡ true → Judges (Is v) p ns
+    → Judges (Is w) p (floorOf ns s .cells) → w ≡ v
+judged-stays p v w ns s h b f g = stays (matchOf p) v w ns s h b (f .means) (g .means)
 
 -- a pattern has one answer: one refusal, or one verdict
 pub one-judged : (p ns : List ℕ) (r q : Judged) → Judges r p ns → Judges q p ns → r ≡ q

@@ -1,4 +1,5 @@
 -- Facts about the definitions of specs/, each stated once.
+pub mod LawsBytes
 pub mod LawsRaise
 pub mod LawsReach
 pub mod LawsVerdict

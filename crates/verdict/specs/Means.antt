@@ -1,21 +1,22 @@
 -- Document 01: "The verdict takes a predicate, or a pattern checked whole before any cell is looked at. Its three answers are those
 -- of demand 3": with `answer` the predicate's or pattern's answer and `after m run` the matrix after a run of accepted records,
 -- yes for good exactly when `answer (after m run)` is yes for every accepted run, the empty one included; no for good likewise;
--- open exactly when some accepted run of at most nine records ends in yes and some in no.
+-- open exactly when some accepted run of at most nine records ends in yes and some in no. A run is bytes that `floorOf` of `plan`
+-- accepts to the end; it leaves that answer's matrix, and has as many records as that answer counts.
 -- That a matrix has one verdict, so that each holds exactly then, is `one-verdict` of proofs/LawsVerdict.antt.
 use Prim.Native.Nat.{ℕ, _≤_}
 use mathlib.Core.Path.{_≡_}
 use mathlib.Core.Bool.{Bool, true, false, _&&_}
 use mathlib.Core.List.{List, [], _∷_}
 use lib.Dec.{ltb}
-use lib.ListN.{length}
 use Rattle.predicates.specs.declared.predicate.Predicate.{Predicate}
+use Rattle.de9im.specs.declared.answer.Checked.the-variants.{Fine}
 use Rattle.de9im.specs.declared.patterns.Matched.{Matched}
 use Rattle.de9im.specs.declared.patterns.Matched.the-variants.{Yes, No, Refused}
 use Rattle.de9im.specs.Cells.{matrixOf}
 use Rattle.de9im.specs.Patterns.{matchesOf}
 use Rattle.predicates.specs.Predicates.{holds}
-use Rattle.plan.specs.Run.{Run}
+use Rattle.plan.specs.Floor.{floorOf}
 use Rattle.verdict.specs.declared.Verdict.{Verdict}
 use Rattle.verdict.specs.declared.Verdict.the-variants.{YesForGood, NoForGood, Open}
 
@@ -32,27 +33,22 @@ saysYes (Refused r) = false
 abbrev pub matchOf : List ℕ → List ℕ → Bool
 matchOf p ns = saysYes (matchesOf (matrixOf ns) p)
 
--- a record is a string of bytes, and a run has such records alone
+-- a run of records is one string of bytes
 abbrev pub isBytes : List ℕ → Bool
 isBytes [] = true
 isBytes (b ∷ bs) = ltb b 256 && isBytes bs
 
-abbrev pub areBytes : List (List ℕ) → Bool
-areBytes [] = true
-areBytes (s ∷ rs) = isBytes s && areBytes rs
-
 -- the answer after every accepted run
 abbrev pub Always : (List ℕ → Bool) → Bool → List ℕ → Type 0
-Always answer b ns = (rs : List (List ℕ)) (os : List ℕ) → areBytes rs ≡ true → Run ns rs os → answer os ≡ b
+Always answer b ns = (s : List ℕ) → isBytes s ≡ true → floorOf ns s .stop ≡ Fine → answer (floorOf ns s .cells) ≡ b
 
 -- the answer after some accepted run of at most nine records
 pub record Sometimes (answer : List ℕ → Bool) (b : Bool) (ns : List ℕ) : Type 0 where
-  pub records : List (List ℕ)
-  pub after : List ℕ
-  pub bytes : areBytes records ≡ true
-  pub accepted : Run ns records after
-  pub few : length records ≤ 9
-  pub says : answer after ≡ b
+  pub run : List ℕ
+  pub bytes : isBytes run ≡ true
+  pub accepted : floorOf ns run .stop ≡ Fine
+  pub few : floorOf ns run .records ≤ 9
+  pub says : answer (floorOf ns run .cells) ≡ b
 
 pub record Both (answer : List ℕ → Bool) (ns : List ℕ) : Type 0 where
   pub ends-yes : Sometimes answer true ns

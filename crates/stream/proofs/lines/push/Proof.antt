@@ -4,7 +4,7 @@ use native.Mathlib.Omega.{arith}
 use mathlib.Core.Path.{_≡_, refl, ap, _∙_}
 use Prim.Native.Nat.{ℕ, _+_}
 use denote.Ref.{now}
-use Rattle.stream.proofs.LawsLists.{laid}
+use Rattle.pieces.proofs.LawsLists.{laid}
 use Rattle.stream.proofs.lines.push.Statement.{statement}
 use Rattle.stream.proofs.lines.push.Tie as tie
 
@@ -13,7 +13,7 @@ returns c =
     let s = c .before .before .before .before .before .before in
     let k = c .before .before .copy in (
       ap (λ (n : ℕ). s .args .at + n) (k .ensures .0),
-      rw (k .ensures .0) (laid (now (s .args .out)) (now (s .args .word)) (k .last .1 .0) (s .args .at) (s .pre) (k .ensures .1)),
+      rw (k .ensures .0) (laid _ (now (s .args .out)) (now (s .args .word)) (k .last .1 .0) (s .args .at) refl (s .pre) (k .ensures .1)),
     )
 
 pub push-spec : {M : Type 1} → statement M

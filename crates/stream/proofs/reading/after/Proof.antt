@@ -1,34 +1,52 @@
 -- One clause of `Follows` for what the read brought. Assumes nothing.
 use borrow.Author.Needs.{needs}
 use native.Mathlib.Omega.{arith}
+use denote.Ref.{now}
+use mathlib.Core.Path.{_≡_, refl, sym, ap, _∙_}
+use lib.ListN.{take}
+use lib.Seq.{length-take-le}
+use Rattle.plan.specs.declared.floor.FloorAnswer.{FloorAnswer}
+use Rattle.stream.specs.Reading.{nextOf}
 use Rattle.stream.proofs.reading.after.Statement.{statement}
 use Rattle.stream.proofs.reading.after.Tie as tie
 
-taken-requires : tie.Need-taken-requires
-taken-requires c κs =
-    let s = c .before .before .before .before in
-    let f = rw (c .before .got .given .1) at (s .pre .0 .1) in
-    (s .pre .0 .0, f .1, s .pre .1 .0, s .pre .1 .1)
+slice-aggregate-push : tie.Need-slice-aggregate-push
+slice-aggregate-push c =
+    let s = c .before .before .before .before .before in
+    let f = rw (c .before .before .got .given .1) at (s .pre) in
+    sym (length-take-le _ (now (s .args .buf)) (f .1))
 
 returns : tie.Need-returns
-returns c = rw (c .before .before .got .given .1) (c .taken .ensures)
+returns c =
+    let p = c .before .before .push .ensures in
+    rw (c .before .before .before .before .before .got .given .1)
+    (record {
+      holds = p;
+      next = λ ns bs h. c .next-of .ensures ∙ ap (λ (f : FloorAnswer). nextOf (f .stop)) (c .before .finish .ensures ns _ (p ns bs h));
+    })
 
 returns-2 : tie.Need-returns-2
-returns-2 c = rw (c .before .enum-told .given .1) (c .ended .ensures)
+returns-2 c = rw (c .enum-told .given .1) refl
 
 returns-3 : tie.Need-returns-3
-returns-3 c = rw (c .before .enum-told2 .given .1) (c .tell .ensures)
+returns-3 c = rw (c .enum-told2 .given .1) refl
+
+returns-4 : tie.Need-returns-4
+returns-4 c = rw (c .enum-told3 .given .1) refl
 
 pub after-spec : {M : Type 1} → statement M
 after-spec =
     tie.close
     (tie.spec
     (λ c. search needs)
-    taken-requires
-    (λ c. search needs)
+    slice-aggregate-push
+    (λ c κs. search needs)
+    (λ c κs. search needs)
     (λ c κs. search needs)
     (λ c. search needs)
-    (λ c κs. search needs)
+    (λ c. search needs)
+    (λ c. search needs)
     returns
     returns-2
-    returns-3)
+    returns-3
+    returns-4)

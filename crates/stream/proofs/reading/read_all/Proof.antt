@@ -1,56 +1,64 @@
--- The loop keeps: what is told of the rest and what follows it is told of all bytes so far. The bytes read grow, and are bounded.
--- Assumes nothing.
+-- The loop keeps: the state stands for the bytes that came, and what is told from here with the reads that are left is told. Each turn
+-- takes one of them. Assumes nothing.
 use borrow.Author.Needs.{needs}
 use native.Mathlib.Omega.{arith}
-use Prim.Native.Nat.{_+_, _-_}
-use mathlib.Core.Path.{_≡_, refl, sym}
-use Rattle.de9im.specs.Text.{cellLetterOf}
-use Rattle.stream.proofs.LawsReading.{Since, starts, since-goes, since-further, since-near, since-tells}
+use Prim.Native.Nat.{ℕ}
+use mathlib.Core.Path.{_≡_, refl, sym, ap, subst, _∙_}
+use mathlib.Core.List.{List, []}
+use lib.ListN.{length}
+use Rattle.pieces.specs.Pieces.{Holds}
+use Rattle.stream.specs.Reading.{mostReads}
+use Rattle.stream.proofs.LawsReading.{Since, since-start, since-worn, since-goes, since-done, since-broken}
 use Rattle.stream.proofs.reading.read_all.Statement.{statement}
 use Rattle.stream.proofs.reading.read_all.Tie as tie
 
 abbrev Inv-loop : tie.InvT-loop
-Inv-loop fd buf₀ t₀ buf t = Since buf t
+Inv-loop fd buf₀ s₀ left₀ buf s left = (65536 ≡ length buf) × Since left s
 
 abbrev μ-loop : tie.MeasureT-loop
-μ-loop fd buf₀ t₀ buf t = 9223372036855000000 - (t .off + (t .have - t .at))
+μ-loop fd buf₀ s₀ left₀ buf s left = left
 
 loop-holds : tie.Need-loop-holds Inv-loop μ-loop
-unfolding cellLetterOf
-loop-holds c = starts _ _ (search needs) refl refl refl refl
-
-slice-aggregate-turn : tie.Need-slice-aggregate-turn Inv-loop μ-loop
-slice-aggregate-turn c = sym (c .before .loop .inv .standing .room)
-
-turn-requires : tie.Need-turn-requires Inv-loop μ-loop
-turn-requires c κs = c .before .loop .inv .standing
-
-enum-told : tie.Need-enum-told Inv-loop μ-loop
-enum-told c = search needs
-
-loop-less : tie.Need-loop-less Inv-loop μ-loop
-loop-less c =
-    let l = c .before .before .before .before .before .before .loop in
-    let t = c .before .before .before .before .turn in
-    let e = c .enum-told .given .1 in
-    let f = since-further (l .buf) (l .t) _ (t .result) (l .inv) (t .ensures) e in
-    let n = since-near (l .buf) (l .t) _ (t .result) (l .inv) (t .ensures) e in
-    omega (arith, f, n .near, n .short, l .inv .standing .near, l .inv .standing .short)
+loop-holds c =
+    let h = subst (λ (ns : List ℕ). Holds ns [] (c .start .result)) (c .before .start-cells .ensures) (c .start .ensures) in
+    (c .before .before .large-buffer .ensures, since-start (c .start .result) mostReads refl h)
 
 loop-again : tie.Need-loop-again Inv-loop μ-loop
 loop-again c =
-    let l = c .before .before .before .before .before .before .loop in
-    let t = c .before .before .before .before .turn in
-    since-goes (l .buf) (l .t) _ (t .result) (l .inv) (t .ensures) (c .enum-told .given .1)
-
-enum-known-next : tie.Need-enum-known-next Inv-loop μ-loop
-enum-known-next c = search needs
+    let a = c .before .before .before .after in
+    let q = c .before .before .before .before .before .before .read-once in
+    let t = c .before .before .before .before .before .before .before .before in
+    let l = t .before .loop in (
+      search needs,
+      since-goes (l .left) (l .s) (l .inv .1) (t .loop-test .taken) (q .last .1 .0) (q .result) (a .result) (q .ensures)
+          (a .ensures) (c .enum-told .given .1),
+    )
 
 returns : tie.Need-returns Inv-loop μ-loop
 returns c =
-    let l = c .before .before .before .before .before .before .before .loop in
-    let t = c .before .before .before .before .before .turn in
-    since-tells (l .buf) (l .t) _ (t .result) (l .inv) (t .ensures) _ (c .before .next .given .1)
+    let f = c .before .finish in
+    let a = c .before .before .before .before .before .after in
+    let q = c .before .before .before .before .before .before .before .before .read-once in
+    let t = c .before .before .before .before .before .before .before .before .before .before in
+    let l = t .before .loop in
+    rw (c .outcome-of .ensures)
+    (since-done (l .left) (l .s) (l .inv .1) (t .loop-test .taken) (q .last .1 .0) (q .result) (a .result) (f .result) (q .ensures)
+    (a .ensures) (c .before .before .enum-told2 .given .1) (f .ensures))
+
+returns-2 : tie.Need-returns-2 Inv-loop μ-loop
+returns-2 c =
+    let a = c .before .before .before .before .after in
+    let q = c .before .before .before .before .before .before .before .read-once in
+    let t = c .before .before .before .before .before .before .before .before .before in
+    let l = t .before .loop in
+    rw (c .broken .ensures)
+    (since-broken (l .left) (l .s) (l .inv .1) (t .loop-test .taken) (q .last .1 .0) (q .result) (a .result) (q .ensures) (a .ensures)
+    (c .before .enum-told3 .given .1))
+
+returns-3 : tie.Need-returns-3 Inv-loop μ-loop
+returns-3 c =
+    let l = c .before .before .loop in
+    rw (c .broken2 .ensures) (since-worn (l .left) (l .inv .1) (omega (arith, c .before .loop-test .left)))
 
 pub read-all-spec : {M : Type 1} → statement M
 read-all-spec =
@@ -58,11 +66,24 @@ read-all-spec =
     (tie.spec
     Inv-loop
     μ-loop
+    (λ c κs. search needs)
+    (λ c κs. search needs)
+    (λ c κs. search needs)
     loop-holds
-    slice-aggregate-turn
-    turn-requires
-    enum-told
-    loop-less
+    (λ c. search needs)
+    (λ c κs. search needs)
+    (λ c. search needs)
+    (λ c κs. search needs)
+    (λ c. search needs)
+    (λ c. search needs)
+    (λ c. search needs)
     loop-again
-    enum-known-next
-    returns)
+    (λ c. search needs)
+    (λ c κs. search needs)
+    (λ c κs. search needs)
+    returns
+    (λ c. search needs)
+    (λ c κs. search needs)
+    returns-2
+    (λ c κs. search needs)
+    returns-3)

@@ -1,0 +1,2 @@
+-- How the code keeps things: no promise of a public function names these.
+pub mod Joining
