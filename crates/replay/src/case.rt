@@ -89,8 +89,8 @@ fn count(c: Case) -> usize
     least((256 * wide(c[22]) + wide(c[23])) as usize, 600)
 }
 
-// How many bytes a call may write: a label, a star's labels, cells and two answers, a text's answers and numbers, a buffer within n bytes, or nine cells or
-// letters.
+// How many bytes a call may write: a label, a star's labels, cells and two answers, a text's answers and numbers, a buffer within n
+// bytes, or nine cells or letters.
 fn room(letter: u8, n: usize) -> usize
     requires { ⌜ n ≤ 600 ⌝ }
     ensures { λ r. ⌜ n + r ≤ 1256 ⌝ }
