@@ -198,10 +198,10 @@ fn build_far_side(library: &Path) {
     let source = here.join("far/far_side.c");
     let header = here.join("../crates/misonkandi");
     println!("cargo:rerun-if-changed={}", source.display());
-    println!(
-        "cargo:rerun-if-changed={}",
-        here.join("far/bare.h").display()
-    );
+    for name in ["bare.h", "laid.h", "floor_calls.h"] {
+        let included = here.join("far").join(name);
+        println!("cargo:rerun-if-changed={}", included.display());
+    }
     println!(
         "cargo:rerun-if-changed={}",
         header.join("misonkandi.h").display()

@@ -49,8 +49,9 @@ typedef struct {
     const uint8_t *bytes;
     const int32_t *xy;
     uint8_t *labels, *buffer;
-    int32_t *corners; /* read from a text, with its answers */
+    int32_t *corners; /* read from a text */
     uint64_t *answer;
+    misonkandi_pieces *state;
     size_t count, room; /* of bytes, of the buffer's; of an outline or a shape, the count is of numbers */
 } lendings;
 
@@ -75,6 +76,17 @@ static uint32_t point_in_outline(const lendings *l) { return misonkandi_point_in
 static uint32_t bundle(const lendings *l) { return misonkandi_bundle(l->bytes, l->count, l->text); }
 static uint32_t star(const lendings *l) { return misonkandi_star(l->bytes, l->count, 1, 0, l->labels); }
 static uint32_t record(const lendings *l) { return misonkandi_record(l->cells, l->bytes, l->count); }
+static uint32_t whole_floor(const lendings *l) {
+    return misonkandi_floor(l->cells, l->bytes, l->count, l->answer);
+}
+static uint32_t begin(const lendings *l) { misonkandi_start(l->state, l->cells); return 0; }
+/* In two pieces, the first of which ends within a record. */
+static uint32_t push(const lendings *l) {
+    size_t half = l->count / 2;
+    misonkandi_push(l->state, l->bytes, half);
+    return misonkandi_push(l->state, half > 0 ? l->bytes + half : l->bytes, l->count - half);
+}
+static uint32_t finish(const lendings *l) { return misonkandi_finish(l->state, l->cells, l->answer); }
 static uint32_t read_report(const lendings *l) { return misonkandi_read_report(l->cells, l->bytes, l->count); }
 static uint32_t write_report(const lendings *l) { return misonkandi_write_report(l->cells, l->buffer, l->count, 0); }
 static uint32_t write_short(const lendings *l) {
@@ -92,10 +104,10 @@ static uint32_t write_wkt(const lendings *l) {
     return misonkandi_write_wkt(MISONKANDI_SHAPE_POLYGON, l->xy, l->count, l->buffer, l->room, 0);
 }
 
-/* The bytes that a call is given: a text, a predicate's name, ends, a record of a node or of an edge, a shape's text, a
- * report, long or short. Or the numbers of an outline or of a shape. */
+/* The bytes that a call is given: a text, a predicate's name, ends, a record of a node or of an edge, a floor of both,
+ * a shape's text, a report, long or short. Or the numbers of an outline or of a shape. */
 enum { NO_ROW = 8388607 }; /* MISONKANDI_NO_SUCH_ROW, read as a refusal */
-enum given { TEXT, NAME, ENDS, NODE, EDGE, OUTLINE, SHAPE, WKT, REPORT, SHORT_REPORT };
+enum given { TEXT, NAME, ENDS, NODE, EDGE, FLOOR, OUTLINE, SHAPE, WKT, REPORT, SHORT_REPORT };
 enum { MOST_GIVEN = MISONKANDI_MOST_WKT_BYTES };
 
 static const struct {
@@ -123,6 +135,10 @@ static const struct {
     {"star", star, ENDS, 0, 0},
     {"record, a node", record, NODE, 1, 1},
     {"record, an edge", record, EDGE, 1, 1},
+    {"floor", whole_floor, FLOOR, 0, 1},
+    {"start", begin, FLOOR, 0, 0},
+    {"push", push, FLOOR, 0, 0},
+    {"finish", finish, FLOOR, 0, 1},
     {"read_report", read_report, REPORT, 1, 1},
     {"write_report", write_report, REPORT, 12, 0},
     {"read, short", read_report, SHORT_REPORT, 1, 1},
@@ -182,6 +198,7 @@ static size_t write_given(enum given given, uint8_t to[MOST_GIVEN]) {
     case ENDS: write_ends(to); return 480;
     case NODE: memcpy(to, node, 9); write_ends(to + 9); return 489;
     case EDGE: memcpy(to, edge, 11); return 11;
+    case FLOOR: memcpy(to, node, 9); write_ends(to + 9); memcpy(to + 489, edge, 11); return 500;
     case OUTLINE: case SHAPE: return MOST_NUMBERS;
     case WKT: return write_longest(to);
     case REPORT: memcpy(to, "\0\12\1" "210F21012", 12); return 12;
@@ -194,7 +211,7 @@ static size_t write_given(enum given given, uint8_t to[MOST_GIVEN]) {
 static const uint8_t start[9] = MISONKANDI_START;
 
 /* One call with its bytes cut to a count, all that it is lent at the end of a room or at its beginning. */
-enum { ROOMS = 7 };
+enum { ROOMS = 8 };
 static uint32_t guarded_call(int k, const uint8_t *bytes, size_t count, int at_end, const pages room[ROOMS]) {
     static const uint8_t nothing[MOST_GIVEN];
     enum given given = calls[k].given;
@@ -208,7 +225,8 @@ static uint32_t guarded_call(int k, const uint8_t *bytes, size_t count, int at_e
     l.room = given == SHAPE ? MISONKANDI_MOST_WKT_BYTES : count;
     l.buffer = lent(room[4], nothing, l.room, at_end);
     l.corners = (int32_t *)lent(room[5], nothing, sizeof saw, at_end);
-    l.answer = (uint64_t *)lent(room[6], nothing, 3 * sizeof *l.answer, at_end);
+    l.answer = (uint64_t *)lent(room[6], nothing, (given == FLOOR ? 2 : 3) * sizeof *l.answer, at_end);
+    l.state = (misonkandi_pieces *)lent(room[7], nothing, sizeof *l.state, at_end);
     l.count = count;
     return calls[k].call(&l);
 }
@@ -237,11 +255,13 @@ static void nulls(void) {
         uint8_t cells[9] = {9, 8, 7, 6, 5, 4, 255, 0, 3}, before[9], text[9], labels[224];
         int32_t corners[MOST_NUMBERS];
         uint64_t answer[3];
+        misonkandi_pieces state;
         lendings l;
         uint32_t word;
         memcpy(before, cells, 9);
+        misonkandi_start(&state, cells);
         l.cells = cells, l.text = text, l.labels = labels;
-        l.corners = corners, l.answer = answer;
+        l.corners = corners, l.answer = answer, l.state = &state;
         l.bytes = NULL, l.xy = NULL, l.buffer = NULL, l.count = 0, l.room = 0;
         word = calls[k].call(&l);
         same(calls[k].name, MISONKANDI_REFUSED(word) ? MISONKANDI_NUMBER(word) : 0, calls[k].none);
@@ -361,6 +381,153 @@ static void reports(void) {
         for (k = 0; k < sizeof large / sizeof large[0]; k++)
             one_offset(REPORT, room, large[k]), one_offset(SHORT_REPORT, room, large[k]);
     }
+}
+
+/* ---- Floors ---- */
+
+enum { LONG = 602, MOST_FLOOR = 500 + LONG + MOST_GIVEN };
+
+/* What is said of a floor. */
+typedef struct { uint32_t word; uint8_t cells[9]; uint64_t used, records; } told;
+
+static void same_told(told a, told b) {
+    SAME(a.word, b.word);
+    SAME(memcmp(a.cells, b.cells, 9), 0);
+    SAME(a.used, b.used);
+    SAME(a.records, b.records);
+}
+
+static told one_by_one(const uint8_t *cells, const uint8_t *bytes, size_t count) {
+    told t = {0, {0}, 0, 0};
+    memcpy(t.cells, cells, 9);
+    while (t.used < count) {
+        t.word = misonkandi_record(t.cells, bytes + t.used, count - (size_t)t.used);
+        if (MISONKANDI_REFUSED(t.word)) return t;
+        t.used += t.word, t.records++;
+    }
+    t.word = 0;
+    return t;
+}
+
+static told in_one_call(const uint8_t *cells, const uint8_t *bytes, size_t count) {
+    told t;
+    uint64_t answer[2] = {9, 9};
+    memcpy(t.cells, cells, 9);
+    t.word = misonkandi_floor(t.cells, bytes, count, answer);
+    t.used = answer[0], t.records = answer[1];
+    return t;
+}
+
+static told finished(const misonkandi_pieces *state) {
+    told t;
+    misonkandi_pieces before = *state;
+    uint64_t answer[2] = {9, 9};
+    memset(t.cells, 9, 9);
+    t.word = misonkandi_finish(state, t.cells, answer);
+    SAME(memcmp(state, &before, sizeof before), 0);
+    t.used = answer[0], t.records = answer[1];
+    return t;
+}
+
+/* The next piece, against a page that nobody may touch. The answer is that of one call to what has come, whole. */
+static void pushed(misonkandi_pieces *state, pages room, const uint8_t *bytes, size_t from, size_t to) {
+    told meant = in_one_call(start, bytes, to);
+    uint32_t part = 0x80000000u + 256 * MISONKANDI_REFUSAL_SHORT;
+    uint8_t *piece = lent(room, bytes + from, to - from, 1);
+    SAME(misonkandi_push(state, from < to ? piece : NULL, to - from), meant.word == part ? 0 : meant.word);
+    same_told(finished(state), meant);
+}
+
+static void in_two(misonkandi_pieces *state, pages room, const uint8_t *bytes, size_t cut, size_t count) {
+    misonkandi_start(state, start);
+    pushed(state, room, bytes, 0, cut);
+    pushed(state, room, bytes, cut, count);
+}
+
+/* A floor cut into two pieces at every place, and into single bytes. */
+static void every_cut(const uint8_t *bytes, size_t count, const pages room[2]) {
+    misonkandi_pieces *state = (misonkandi_pieces *)lent(room[0], bytes, sizeof *state, 1);
+    size_t cut;
+    same_told(in_one_call(start, bytes, count), one_by_one(start, bytes, count));
+    for (cut = 0; cut <= count; cut++) in_two(state, room[1], bytes, cut, count);
+    misonkandi_start(state, start);
+    for (cut = 0; cut < count; cut++) pushed(state, room[1], bytes, cut, cut + 1);
+}
+
+/* A floor with a damaged byte, cut where that byte stands and behind it. */
+static void one_damage(uint8_t *bytes, size_t count, size_t place, uint8_t to, const pages room[2]) {
+    misonkandi_pieces *state = (misonkandi_pieces *)lent(room[0], bytes, sizeof *state, 1);
+    uint8_t kept = bytes[place];
+    bytes[place] = to;
+    same_told(in_one_call(start, bytes, count), one_by_one(start, bytes, count));
+    in_two(state, room[1], bytes, place, count);
+    in_two(state, room[1], bytes, place + 1, count);
+    bytes[place] = kept;
+}
+
+/* The longest record, an edge, and a record that is longer than any accepted one: it is refused once it has come whole,
+ * and what stands behind it isn't looked at. */
+static size_t write_floor(uint8_t to[MOST_FLOOR]) {
+    size_t at = write_given(FLOOR, to);
+    memset(to + at, 0, LONG);
+    memcpy(to + at, to, 9); /* a node's head, with a length of its own and an end more than there may be */
+    to[at] = 2, to[at + 1] = 88, to[at + 8] = 33;
+    return at + LONG + write_given(EDGE, to + at + LONG);
+}
+
+/* A state of any bytes: some answer, within what is lent. */
+static void any_state(const uint8_t *bytes, size_t count, const pages room[2]) {
+    static const uint64_t counts[] = {0, 1, 2, 488, 489, 490, 491, 65536, 65537, 1ull << 63, UINT64_MAX};
+    static const uint32_t stops[] = {0, 1, 2, 9, 11, 15, 22, 23, 255, 256, 257, 0x80000000u, 0x80000100u, UINT32_MAX};
+    enum { COUNTS = sizeof counts / sizeof counts[0], STOPS = sizeof stops / sizeof stops[0] };
+    int k;
+    for (k = 0; k < 256 * COUNTS * STOPS; k++) {
+        misonkandi_pieces *state = (misonkandi_pieces *)lent(room[0], bytes, sizeof *state, 1);
+        uint32_t word;
+        memset(state, k % 256, sizeof *state);
+        state->count = counts[k / 256 % COUNTS], state->stop = stops[k / 256 / COUNTS];
+        word = misonkandi_push(state, lent(room[1], bytes, count, 1), count);
+        SAME(word == 0 || MISONKANDI_REFUSED(word), 1);
+        word = finished(state).word;
+        SAME(word == 0 || MISONKANDI_REFUSED(word), 1);
+    }
+}
+
+/* Where no record is accepted the cells stay as they came. */
+static void larger_floors(void) {
+    static const uint8_t cells[9] = {250, 4, 3, 2, 1, 0, 255, 128, 9}, refused_kind[] = {0, 2, 1, 3};
+    misonkandi_pieces state, copy;
+    told t = in_one_call(cells, NULL, 0);
+    misonkandi_start(&state, cells);
+    same_told(t, finished(&state));
+    SAME(t.word, 0), SAME(t.used, 0), SAME(t.records, 0), SAME(memcmp(t.cells, cells, 9), 0);
+    SAME(misonkandi_push(&state, refused_kind, 3), 0);
+    copy = state; /* which goes on by itself */
+    refused(misonkandi_push(&state, refused_kind + 3, 1), MISONKANDI_REFUSAL_KIND, 0);
+    refused(misonkandi_push(&state, NULL, 0), MISONKANDI_REFUSAL_KIND, 0);
+    same_told(in_one_call(cells, refused_kind, 4), finished(&state));
+    same_told(in_one_call(cells, refused_kind, 3), finished(&copy));
+    SAME(memcmp(finished(&state).cells, cells, 9), 0);
+}
+
+static void floors(void) {
+    uint8_t bytes[MOST_FLOOR];
+    pages room[2];
+    size_t k, count = write_floor(bytes);
+    room[0] = guarded(), room[1] = guarded();
+    SAME(sizeof(misonkandi_pieces), MISONKANDI_PIECES_BYTES);
+    SAME(offsetof(misonkandi_pieces, stop), 24), SAME(offsetof(misonkandi_pieces, cells), 28);
+    SAME(offsetof(misonkandi_pieces, held), 37);
+    SAME(in_one_call(start, bytes, 500).records, 2), SAME(in_one_call(start, bytes, 500).word, 0);
+    refused(in_one_call(start, bytes, count).word, MISONKANDI_REFUSAL_ENDS, 0);
+    every_cut(bytes, 500, room), every_cut(bytes, count, room);
+    for (k = 0; k < count; k++) {
+        one_damage(bytes, count, k, (uint8_t)(bytes[k] + 1), room);
+        one_damage(bytes, count, k, bytes[k] ^ 128, room);
+    }
+    any_state(bytes, 40, room), any_state(bytes, count, room);
+    larger_floors();
+    munmap(room[0].start - ROOM, 3 * ROOM), munmap(room[1].start - ROOM, 3 * ROOM);
 }
 
 /* ---- Outlines ---- */
@@ -548,7 +715,10 @@ static lendings all_lent(int k) {
     static uint8_t cells[9], text[9], labels[224], bytes[MOST_GIVEN], buffer[MOST_GIVEN];
     static int32_t corners[MOST_NUMBERS];
     static uint64_t answer[3];
+    static misonkandi_pieces state;
     lendings l;
+    memset(&state, 0, sizeof state);
+    l.state = &state;
     l.cells = cells, l.text = text, l.labels = labels, l.buffer = buffer, l.bytes = bytes;
     l.xy = numbers_of(calls[k].given), l.corners = corners, l.answer = answer;
     l.count = write_given(calls[k].given, bytes), l.room = MOST_GIVEN;
@@ -633,6 +803,7 @@ int main(void) {
     nulls();
     numbers();
     reports();
+    floors();
     outlines();
     shapes();
     larger();

@@ -1,5 +1,5 @@
-/* A plan record from bytes to nine letters, a predicate by its row and one by its name, a refused pattern, points in an
- * outline, and shapes read from text and written back. */
+/* A plan record from bytes to nine letters, a predicate by its row and one by its name, a refused pattern, a floor of
+ * records in one call and in pieces, points in an outline, and shapes read from text and written back. */
 #include "misonkandi.h"
 #include <stdio.h>
 #include <string.h>
@@ -25,6 +25,54 @@ static void tell_pattern(const uint8_t cells[MISONKANDI_CELLS], const char *patt
         printf("%s refused: a bad byte at %u\n", pattern, (unsigned)MISONKANDI_PLACE(word));
     else
         printf("%s refused %u\n", pattern, (unsigned)MISONKANDI_NUMBER(word));
+}
+
+/* A corner of A's outline outside B, a wall of A's within B, and a record of no such kind. */
+static const uint8_t plan[] = {
+    0, 7, 1, MISONKANDI_NODE, B, E, NONE, NONE, 0,
+    0, 9, 1, MISONKANDI_EDGE, MISONKANDI_AREA, B, I, E, I, I, I,
+    0, 7, 1, 3, B, E, NONE, NONE, 0
+};
+
+static void tell_floor(const uint8_t cells[MISONKANDI_CELLS], const uint64_t answer[2]) {
+    uint8_t text[MISONKANDI_CELLS];
+    misonkandi_to_text(cells, text);
+    printf("records %lu, bytes %lu, matrix %.9s\n", (unsigned long)answer[1], (unsigned long)answer[0],
+           (const char *)text);
+}
+
+/* The refused record stands at the bytes used. */
+static void tell_refused(uint32_t word, const uint64_t answer[2]) {
+    if (MISONKANDI_REFUSED(word))
+        printf("refused %u at %lu\n", (unsigned)MISONKANDI_NUMBER(word), (unsigned long)answer[0]);
+}
+
+static void tell_one_call(size_t count) {
+    uint8_t cells[MISONKANDI_CELLS] = MISONKANDI_START;
+    uint64_t answer[2];
+    uint32_t word = misonkandi_floor(cells, plan, count, answer);
+    printf("floor of %lu bytes: ", (unsigned long)count);
+    tell_floor(cells, answer);
+    tell_refused(word, answer);
+}
+
+/* A gateway that reads the same floor in pieces, and asks after each. Within a record misonkandi_finish says refusal 1;
+ * that one is for good only if no more bytes come. */
+static void tell_pieces(size_t piece) {
+    uint8_t cells[MISONKANDI_CELLS] = MISONKANDI_START;
+    uint64_t answer[2];
+    misonkandi_pieces state;
+    size_t at, count;
+    uint32_t word = 0;
+    misonkandi_start(&state, cells);
+    for (at = 0; at < sizeof plan && !MISONKANDI_REFUSED(word); at += count) {
+        count = sizeof plan - at < piece ? sizeof plan - at : piece;
+        word = misonkandi_push(&state, plan + at, count);
+        misonkandi_finish(&state, cells, answer);
+        printf("%lu bytes came: ", (unsigned long)count);
+        tell_floor(cells, answer);
+    }
+    tell_refused(misonkandi_finish(&state, cells, answer), answer);
 }
 
 /* A room with a notch in its upper wall: x and y of each corner in turn. */
@@ -67,6 +115,9 @@ int main(void) {
     printf("touches %s\n", misonkandi_verdict(cells, row) == MISONKANDI_NO_FOR_GOOD ? "no, for good" : "perhaps");
     tell_pattern(cells, "T*T***T**");
     tell_pattern(cells, "T*X******");
+    tell_one_call(20);
+    tell_one_call(19);
+    tell_pieces(16);
     tell_point(2, 3); /* level with the notch's corner (5, 3) */
     tell_point(5, 5); /* in the notch */
     tell_point(8, 6);

@@ -18,7 +18,7 @@ if cargo clippy --version >/dev/null 2>&1; then
     cargo clippy --quiet --all-targets -- -D warnings
 fi
 
-# The example, on its own records and on a run of bytes: a node, an isolated edge, and one that is cut short.
+# The example, on its own records and on a floor in pieces: a node, an isolated edge, and a record that is cut short.
 new=$(mktemp)
 trap 'rm -f "$new"' EXIT
 {

@@ -1,18 +1,19 @@
 /* Misonkandi for C: DE-9IM matrices, their eleven predicates and patterns, and what fills a matrix: plan records, the
- * ends at a node, points and boxes, stored reports; a point in an outline; and shapes as WKT text. `sh
- * tools/library.sh` builds the library for the processor at hand, target/native/libmisonkandi.a.
+ * ends at a node, points and boxes, stored reports; whole floors of records, in one call or in pieces; a point in an
+ * outline; and shapes as WKT text. `sh tools/library.sh` builds the library for the processor at hand,
+ * target/native/libmisonkandi.a.
  *
  * Every function of the library is proved to answer what its contract says, for all bytes and numbers that it can be
  * given; this header says the same in words. Two duties are left to the caller:
  *
- *   - A pointer leads to as many bytes or numbers as its parameter says, or to `count` bytes, or `room`, or to
- *     `numbers` numbers of 32 bits. Where that is 0 the pointer is not used and may be NULL; no other may.
+ *   - A pointer leads to as many bytes or numbers as its parameter says, or to a state, or to `count` bytes, or `room`,
+ *     or to `numbers` numbers of 32 bits. Where that is 0 the pointer is not used and may be NULL; no other may.
  *   - What a call writes overlaps nothing else that the call is lent: the proofs don't cover that. Two that are only
  *     read may overlap.
  *
- * No call keeps a pointer, allocates or waits, and every call ends. There is no state but the bytes that are lent, so
- * any threads may call at once, each on bytes of its own. Of the C library no more is needed than memcpy, memmove and
- * memset.
+ * No call keeps a pointer, allocates or waits, and every call ends. There is no state but the bytes that are lent (a
+ * floor that comes in pieces is kept in a misonkandi_pieces of the caller's), so any threads may call at once, each on
+ * bytes of its own. Of the C library no more is needed than memcpy, memmove and memset.
  *
  * Stack: MISONKANDI_STACK_BYTES are enough for any call. misonkandi_star takes most, about 5,000 bytes,
  * misonkandi_bundle 3,900, misonkandi_record 2,900, misonkandi_write_wkt 1,900, misonkandi_read_wkt 1,700,
@@ -39,11 +40,14 @@ extern "C" {
 /* ---- Answers and refusals ----
  *
  * An answer is one word below 2^31. A refusal is 2^31 + 256 * number + place. A call that answers more than a word is
- * lent an array of numbers for it: so misonkandi_read_wkt alone.
+ * lent an array of numbers for it, `answer`: so misonkandi_read_wkt, misonkandi_floor and misonkandi_finish.
  *
- * A refused call leaves every byte that it was lent as it was, but for one number: refused, misonkandi_read_wkt writes
- * the whole place into answer[2]. An accepted call that writes cells writes all nine, each 0 to 3: no larger number is
- * left.
+ * A refused call leaves every byte that it was lent as it was, but for these. Refused, misonkandi_read_wkt writes the
+ * whole place into answer[2]. Of a floor it is a record that is refused, and that record changes nothing: the cells, or
+ * the state, hold the records before it, and both numbers of the answer are written.
+ *
+ * An accepted call that writes cells writes all nine, each 0 to 3: no larger number is left, but where a floor has no
+ * record.
  */
 
 /* Whether a word is no answer: a refusal, or MISONKANDI_NO_SUCH_ROW. */
@@ -346,6 +350,51 @@ enum misonkandi_record_kinds { MISONKANDI_NODE = 1, MISONKANDI_EDGE = 2 };
 /* Pours one record into the cells: the bytes that it used, 2 + its length, or refusal 1 to 9. Bytes after it don't
  * matter, so the next record may stand there. */
 uint32_t misonkandi_record(uint8_t cells[9], const uint8_t *bytes, size_t count);
+
+/* ---- Floors ----
+ *
+ * A floor is any number of records, one directly after the other. It is poured in one call, or in pieces as they come,
+ * and either gives what misonkandi_record gives record by record, up to the first one that is refused:
+ *
+ *   the word   0 if every record is accepted, so for no bytes too; else the refusal of the first refused one, 1 to 9
+ *   cells      all records before it are poured; where there is none the cells are as they came, larger numbers too
+ *   answer[0]  the bytes that those records used: the offset of the refused one, or all bytes where none is refused
+ *   answer[1]  how many records those are
+ *
+ * A floor that ends within a record is refused there, 1. Bytes behind a refused record are not looked at.
+ */
+
+/* Pours a floor of `count` bytes. */
+uint32_t misonkandi_floor(uint8_t cells[9], const uint8_t *bytes, size_t count, uint64_t answer[2]);
+
+/* What is kept of a floor that comes in pieces. It is lent to the three calls below and has no pointer in it, so it may
+ * be copied and kept, moved or thrown away at any time; a copy goes on by itself. Its fields are the library's own:
+ * nobody else needs them. A state that misonkandi_start didn't make, or whose bytes were changed, gets some answer, and
+ * nothing is read or written out of bounds. */
+typedef struct misonkandi_pieces {
+    uint64_t used;     /* bytes of the accepted records so far */
+    uint64_t records;  /* how many they are */
+    uint64_t count;    /* bytes behind them that a part of a record has so far */
+    uint32_t stop;     /* 0, or the number of the refusal; 1 while a part of a record waits for its rest */
+    uint8_t cells[9];  /* what the accepted records leave */
+    uint8_t held[490]; /* the front of that part: one byte more than the longest accepted record has */
+} misonkandi_pieces;
+
+/* sizeof(misonkandi_pieces): 527 bytes of fields, and one that nobody looks at. */
+#define MISONKANDI_PIECES_BYTES 528
+
+/* Nothing has come yet: pours into these cells. Whatever the state was is gone. */
+void misonkandi_start(misonkandi_pieces *state, const uint8_t cells[9]);
+
+/* The next `count` bytes of the floor, cut anywhere; no bytes are a piece too. 0 while more may come: nothing is
+ * refused, or a part of a record waits for its rest. Else the refusal of the first refused record, 2 to 9, now and at
+ * every push after it, which changes nothing. */
+uint32_t misonkandi_push(misonkandi_pieces *state, const uint8_t *bytes, size_t count);
+
+/* What misonkandi_floor answers and writes for all bytes pushed since the start, however they were cut: a part of a
+ * record at the end is refusal 1. All nine cells and both numbers are written; what they were doesn't matter. The state
+ * stays as it is, so one may ask at any time and push on. Both numbers are counted modulo 2^64. */
+uint32_t misonkandi_finish(const misonkandi_pieces *state, uint8_t cells[9], uint64_t answer[2]);
 
 /* ---- Stored reports ----
  *

@@ -5,26 +5,19 @@
  * A batch is its count (4 bytes), then for each call: operation, a (4), b (4), dimension, count of text bytes, the nine
  * cells with a guard of nine on either side (27), text (24). The answer to each: word (4), the 27 bytes, the text.
  *
- * If the count's highest bit is set, calls on ends, records, reports, outlines and texts follow, and the other bits
- * count their bytes. For each: operation, a (4), b (4), offset (8), count of `out` (4), count of `bytes` (4), then out
- * and bytes with a guard of 16 before, between and after. The calls are made where these lie, but for numbers, and all
- * comes back with the word in the place of a. */
-#include "bare.h"
-#include "misonkandi.h"
+ * If the count's highest bit is set, calls on ends, records, reports, outlines, texts and floors follow, and the other
+ * bits count their bytes. For each: operation, a (4), b (4), offset (8), count of `out` (4), count of `bytes` (4), then
+ * out and bytes with a guard of 16 before, between and after. The calls are made where these lie, but for numbers and
+ * pieces, and all comes back with the word in the place of a. */
+#include "floor_calls.h"
 
 enum { GUARD = 9, LENT = 27, LONGEST = 24, SENT = 11 + LENT + LONGEST, RETURNED = 4 + LENT + LONGEST, BATCH = 1024 };
 
-enum { PLAN_BATCH = 1 << 20, PLAN_HEAD = 25, PLAN_GUARD = 16 };
+enum { PLAN_HEAD = 25 };
 
 static uint8_t sent[BATCH * SENT];
 static uint8_t returned[BATCH * RETURNED];
 static uint8_t plans[PLAN_BATCH];
-static uint64_t numbers[PLAN_BATCH / 8];
-
-static uint32_t word_at(const uint8_t *at)
-{
-    return at[0] | (uint32_t)at[1] << 8 | (uint32_t)at[2] << 16 | (uint32_t)at[3] << 24;
-}
 
 static uint32_t call(uint8_t operation, uint32_t a, uint32_t b, uint8_t dimension, uint8_t count, uint8_t *cells,
                      uint8_t *text)
@@ -52,21 +45,7 @@ static void answer(const uint8_t *from, uint8_t *to)
     uint8_t *lent = to + 4, *text = lent + LENT;
     memcpy(lent, from + 11, LENT + LONGEST);
     uint32_t word = call(from[0], word_at(from + 1), word_at(from + 5), from[9], from[10], lent + GUARD, text);
-    for (int i = 0; i < 4; i++)
-        to[i] = (uint8_t)(word >> 8 * i);
-}
-
-/* Numbers must lie at a multiple of their size. They are copied to where they do, guards too; then back. */
-static void *laid(const uint8_t *bytes, size_t count)
-{
-    memcpy(numbers, bytes - PLAN_GUARD, count + 2 * PLAN_GUARD);
-    return numbers + PLAN_GUARD / sizeof *numbers;
-}
-
-static uint32_t laid_back(uint32_t word, uint8_t *bytes, size_t count)
-{
-    memcpy(bytes - PLAN_GUARD, numbers, count + 2 * PLAN_GUARD);
-    return word;
+    put_word(to, word);
 }
 
 static uint32_t outline_call(uint8_t *bytes, size_t count, uint32_t x, uint32_t y)
@@ -104,6 +83,9 @@ static uint32_t plan_call(uint8_t operation, uint32_t a, uint32_t b, size_t offs
     case 7: return outline_call(bytes, count, a, b);
     case 8: return read_wkt_call(bytes, count, out, out_count);
     case 9: return write_wkt_call(a, out, out_count, bytes, count, offset);
+    case 10: return floor_call(out, bytes, count);
+    case 11: return one_by_one_call(out, bytes, count);
+    case 12: return pieces_call(out, out_count, bytes);
     }
     end(6);
     return 0;
@@ -117,8 +99,7 @@ static uint8_t *answer_plan(uint8_t *at)
     uint8_t *out = at + PLAN_HEAD + PLAN_GUARD;
     uint8_t *bytes = out + out_count + PLAN_GUARD;
     uint32_t word = plan_call(at[0], word_at(at + 1), word_at(at + 5), offset, out, out_count, bytes, count);
-    for (int i = 0; i < 4; i++)
-        at[1 + i] = (uint8_t)(word >> 8 * i);
+    put_word(at + 1, word);
     return bytes + count + PLAN_GUARD;
 }
 

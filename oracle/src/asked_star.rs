@@ -46,8 +46,8 @@ pub enum PlanSaid {
     Gave { word: u32, out: Vec<u8> },
 }
 
-/// What the crate says to a call, or None if it can't be asked that: it has no reports, and its `coordinate_position`
-/// isn't among the files given. Bytes that this reader refuses don't come to the crate, and the refusal is the answer.
+/// What the crate says to a call, or None if it can't be asked that: it has no reports and no floors, and its
+/// `coordinate_position` isn't among the files given. Bytes that this reader refuses don't come to the crate, and the refusal is the answer.
 pub fn said(call: &PlanCall) -> Option<PlanSaid> {
     let same = |word| PlanSaid::Gave {
         word,
@@ -69,7 +69,10 @@ pub fn said(call: &PlanCall) -> Option<PlanSaid> {
         | PlanOp::ConvertReport
         | PlanOp::PointInOutline
         | PlanOp::ReadWkt
-        | PlanOp::WriteWkt => return None,
+        | PlanOp::WriteWkt
+        | PlanOp::Floor
+        | PlanOp::OneByOne
+        | PlanOp::Pieces => return None,
     };
     Some(match answer {
         Some(Ok((word, out))) => PlanSaid::Gave { word, out },

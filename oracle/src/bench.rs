@@ -6,6 +6,7 @@
 //! inlining.
 
 use crate::asked;
+use crate::bench_floors;
 use crate::bench_plans;
 use crate::ours::{Call, Op};
 use crate::pieces::{agreeing_pattern, disagreeing, good_pattern, good_text};
@@ -63,12 +64,16 @@ struct Input {
 }
 
 /// The best of the rounds so far, in nanoseconds for one call.
-struct Best(f64);
+pub(crate) struct Best(pub(crate) f64);
 
 impl Best {
+    pub(crate) fn none() -> Self {
+        Best(f64::MAX)
+    }
+
     /// Not inlined: inlined into a line of ours and the crate's, it cost the crate's call some 2 ns.
     #[inline(never)]
-    fn round<I, T>(&mut self, call: impl Fn(&I) -> T, inputs: &[I]) {
+    pub(crate) fn round<I, T>(&mut self, call: impl Fn(&I) -> T, inputs: &[I]) {
         let start = Instant::now();
         for _ in 0..PASSES {
             for input in inputs {
@@ -95,7 +100,7 @@ pub(crate) fn measure<I, T, U: PartialEq>(
         let all = inputs.iter().all(|input| ours(input) == right(input));
         assert!(all, "{name}: the library's answers aren't document 01's");
     }
-    let (mut crates, mut library) = (Best(f64::MAX), Best(f64::MAX));
+    let (mut crates, mut library) = (Best::none(), Best::none());
     for _ in 0..ROUNDS {
         crates.round(&theirs, inputs);
         if THERE {
@@ -296,5 +301,6 @@ pub fn main() {
     bench_plans::measure_all(random);
     if THERE {
         bench_plans::measure_reports(random);
+        bench_floors::measure_all(random);
     }
 }

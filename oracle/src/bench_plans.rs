@@ -48,8 +48,8 @@ const START: [u8; 9] = [0, 0, 0, 0, 0, 0, 0, 0, 3];
 const AXES: [(i32, i32); 4] = [(1, 0), (0, 1), (-1, 0), (0, -1)];
 
 /// One node: as a record, and as the crate keeps its ends.
-struct Node {
-    record: Vec<u8>,
+pub(crate) struct Node {
+    pub(crate) record: Vec<u8>,
     areas: [u8; 2],
     ends: Vec<EdgeEnd<f64>>,
     graphs: [GeometryGraph<'static, f64>; 2],
@@ -63,7 +63,7 @@ impl Node {
 }
 
 /// Square walls lie on the axes, one after the other; any other walls lie anywhere. Each bounds A or B.
-fn node(random: &mut Random, count: usize, square: bool) -> Node {
+pub(crate) fn node(random: &mut Random, count: usize, square: bool) -> Node {
     let areas = [random.below(4) as u8, random.below(4) as u8];
     let mut body = vec![2, 2, areas[0], areas[1], count as u8];
     for number in 0..count {

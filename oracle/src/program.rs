@@ -1,6 +1,6 @@
 //! The program itself: random runs of plan records, damaged ones and truncated ones are given to it on standard input, from
-//! files and through pipes, and what it prints is held to document 01's rules. Each record is also put to the library's
-//! record call.
+//! files and through pipes, and what it prints is held to document 01's rules. Each run is also put to the library, in
+//! one call and a call a record. Pipes are also written while signals interrupt the program's reads.
 //!
 //! Two builds are run: `target/native/relate`, the program's module compiled for this processor (tools/program.sh), and
 //! `./relate` told to run the x86-64 program as `rt` builds it, under its emulator elsewhere (`MISONKANDI_NATIVE=no`).
@@ -8,54 +8,52 @@
 use std::fs::{self, File};
 use std::io::Write;
 use std::path::{Path, PathBuf};
-use std::process::{Command, Stdio};
+use std::process::{Command, Output, Stdio};
 use std::thread;
 use std::time::{Duration, Instant};
 
+use crate::floor_pieces::{accepted, any_floor, quiet_floor};
 use crate::ours::Library;
 use crate::ours::plans::{PlanCall, PlanOp};
-use crate::plan_pieces::{damaged_record, edge_record, ends, good_record, node_record, record};
+use crate::plan_pieces::{damaged_record, edge_record, ends, node_record, record};
 use crate::random::Random;
-use crate::{rule, rule_plan};
+use crate::{rule, rule_floor, rule_plan};
 
 const START: [u8; 9] = [0, 0, 0, 0, 0, 0, 0, 0, 3];
 
-/// What the program must print, which refusal it ends with (0: none), and each record as a call of the library.
+/// The most bytes that the program reads at once.
+const READ: usize = 65_536;
+
+/// Accepted records of exactly so many bytes, which must be many.
+fn of_bytes(total: usize) -> Vec<u8> {
+    let node = record(1, &[1, 1, 0, 0, 0]);
+    let edge = record(2, &[0, 1, 0, 0, 1, 0, 0]);
+    let nodes =
+        (0..edge.len()).find(|count| (total - count * node.len()).is_multiple_of(edge.len()));
+    let nodes = nodes.expect("nine and eleven have no divisor in common");
+    let edges = (total - nodes * node.len()) / edge.len();
+    [node.repeat(nodes), edge.repeat(edges)].concat()
+}
+
+/// What the program must print, which refusal it ends with (0: none), and how many records it looks at.
 struct Expected {
     text: String,
     refusal: u32,
-    calls: Vec<PlanCall>,
+    records: usize,
 }
 
 /// "The program's output", by document 01's rules.
 fn expected(input: &[u8]) -> Expected {
-    let mut cells = START;
-    let mut at = 0;
-    let mut calls = Vec::new();
-    while at < input.len() {
-        let rest = &input[at..input.len().min(at + 65_537)];
-        calls.push(PlanCall::on_cells(PlanOp::Record, cells, rest.to_vec()));
-        match rule_plan::record(&cells, rest) {
-            Ok((used, poured)) => {
-                cells = poured;
-                at += used as usize;
-                calls.last_mut().expect("one").bytes.truncate(used as usize);
-            }
-            Err(word) => {
-                let refusal = rule::number(word).expect("a refusal");
-                let text = format!("refused {refusal} at {at}\n");
-                return Expected {
-                    text,
-                    refusal,
-                    calls,
-                };
-            }
-        }
-    }
+    let floor = rule_floor::floor(START, input);
+    let refusal = rule::number(floor.word).unwrap_or(0);
+    let text = match refusal {
+        0 => answers(&floor.cells),
+        _ => format!("refused {refusal} at {}\n", floor.used),
+    };
     Expected {
-        text: answers(&cells),
-        refusal: 0,
-        calls,
+        text,
+        refusal,
+        records: floor.records as usize + usize::from(refusal != 0),
     }
 }
 
@@ -77,14 +75,48 @@ enum Way {
     Pipe(usize),
 }
 
-struct Run {
-    random: Random,
+/// How a pipe is written: in pieces of at most so many bytes, and behind one in so many of them a pause.
+#[derive(Clone, Copy)]
+pub(crate) struct Pauses {
+    pub(crate) most: usize,
+    pub(crate) one_in: usize,
+    pub(crate) micros: u64,
+}
+
+/// Runs a program with this input through a pipe.
+pub(crate) fn piped(
+    random: &mut Random,
+    mut command: Command,
+    input: &[u8],
+    pauses: Pauses,
+) -> Output {
+    command.stdin(Stdio::piped());
+    let mut child = command.spawn().expect("the program");
+    let mut pipe = child.stdin.take().expect("its input");
+    let mut at = 0;
+    while at < input.len() {
+        let end = input.len().min(at + 1 + random.below(pauses.most));
+        // a program that has refused a record reads no more
+        if pipe.write_all(&input[at..end]).is_err() {
+            break;
+        }
+        at = end;
+        if random.below(pauses.one_in) == 0 {
+            thread::sleep(Duration::from_micros(pauses.micros));
+        }
+    }
+    drop(pipe);
+    child.wait_with_output().expect("the program")
+}
+
+pub(crate) struct Run {
+    pub(crate) random: Random,
     library: Library,
-    file: PathBuf,
+    pub(crate) file: PathBuf,
     inputs: usize,
     records: usize,
     bytes: usize,
-    wrong: usize,
+    pub(crate) wrong: usize,
     met: [usize; 10],
 }
 
@@ -101,41 +133,41 @@ impl Run {
                 command.output().expect("the program")
             }
             Way::Pipe(most) => {
-                command.stdin(Stdio::piped());
-                let mut child = command.spawn().expect("the program");
-                let mut pipe = child.stdin.take().expect("its input");
-                let mut at = 0;
-                while at < input.len() {
-                    let end = input.len().min(at + 1 + self.random.below(most));
-                    // a program that has refused a record reads no more
-                    if pipe.write_all(&input[at..end]).is_err() {
-                        break;
-                    }
-                    at = end;
-                    if self.random.below(8) == 0 {
-                        thread::sleep(Duration::from_micros(60));
-                    }
-                }
-                drop(pipe);
-                child.wait_with_output().expect("the program")
+                let pauses = Pauses {
+                    most,
+                    one_in: 8,
+                    micros: 60,
+                };
+                piped(&mut self.random, command, input, pauses)
             }
         };
         String::from_utf8_lossy(&output.stdout).into_owned()
     }
 
+    /// Whether the library answers the same by itself.
+    fn library_agrees(&mut self, input: &[u8]) -> bool {
+        let calls =
+            [PlanOp::Floor, PlanOp::OneByOne].map(|op| PlanCall::floor(op, START, input.to_vec()));
+        let replies = self.library.answer_plans(&calls);
+        calls.iter().zip(&replies).all(|(call, reply)| {
+            let rule = rule_plan::outcome(call);
+            reply.word == rule.word && reply.out == rule.out
+        })
+    }
+
     fn ask(&mut self, program: &Path, input: &[u8], way: Way) {
-        let must = expected(input);
         let printed = self.printed(program, input, way);
+        self.judge(input, &printed);
+    }
+
+    /// Holds what was printed to the rules, and counts it.
+    pub(crate) fn judge(&mut self, input: &[u8], printed: &str) {
+        let must = expected(input);
         self.inputs += 1;
-        self.records += must.calls.len();
+        self.records += must.records;
         self.bytes += input.len();
         self.met[must.refusal as usize] += 1;
-        let replies = self.library.answer_plans(&must.calls);
-        let differs = must.calls.iter().zip(&replies).any(|(call, reply)| {
-            let rule = rule_plan::outcome(call);
-            reply.word != rule.word || reply.out != rule.out
-        });
-        if printed != must.text || differs {
+        if printed != must.text || !self.library_agrees(input) {
             self.wrong += 1;
             if self.wrong < 4 {
                 println!("differs: must print {:?}, printed {printed:?}", must.text);
@@ -143,57 +175,6 @@ impl Run {
                 fs::write(kept, input).expect("kept");
             }
         }
-    }
-
-    fn accepted(&mut self) -> Vec<u8> {
-        loop {
-            let bytes = good_record(&mut self.random);
-            if rule_plan::record(&START, &bytes).is_ok() {
-                return bytes;
-            }
-        }
-    }
-
-    /// Records that raise few cells, so that the matrix at the end still tells which were poured.
-    fn quiet(&mut self, few: &[(u8, u8)]) -> Vec<u8> {
-        let (a, b) = self.random.pick(few);
-        if self.random.below(2) == 0 {
-            return record(2, &[0, a, 0, 0, b, 0, 0]);
-        }
-        record(1, &[a, b, 0, 0, 0])
-    }
-
-    fn quiet_run(&mut self, count: usize) -> Vec<u8> {
-        let few: Vec<(u8, u8)> = (0..1 + self.random.below(3))
-            .map(|_| {
-                (
-                    1 + self.random.below(3) as u8,
-                    1 + self.random.below(3) as u8,
-                )
-            })
-            .collect();
-        (0..count).flat_map(|_| self.quiet(&few)).collect()
-    }
-
-    /// A run of good records, with a damaged one at any place or none.
-    fn any_run(&mut self, most: usize, damaged: bool) -> Vec<u8> {
-        let count = self.random.below(most + 1);
-        let mut input = Vec::new();
-        for _ in 0..count {
-            input.extend(self.accepted());
-        }
-        if damaged {
-            let mut bytes = damaged_record(&mut self.random);
-            if self.random.below(8) == 0 {
-                let ends = ends(&mut self.random, 4);
-                bytes = node_record(&mut self.random, &ends);
-            }
-            input.extend(bytes);
-            for _ in 0..self.random.below(4) {
-                input.extend(self.accepted());
-            }
-        }
-        input
     }
 
     fn way(&mut self) -> Way {
@@ -214,16 +195,17 @@ impl Run {
         }
     }
 
-    /// A record that is as long as a record can be, cut or whole, over the buffer's end.
-    fn longest(&mut self, program: &Path) {
-        let few = [(1, 1)];
-        for before in [0, 1, 5957, 5958, 5959, 11_914, 11_915, 11_916] {
-            let mut input: Vec<u8> = (0..before).flat_map(|_| self.quiet(&few)).collect();
+    /// Over the end of what one read brings: the longest record that there can be, cut or whole, and a short one.
+    fn over_the_end(&mut self, program: &Path) {
+        for before in (READ - 3..READ + 3).chain(2 * READ - 2..2 * READ + 1) {
+            let start = of_bytes(before);
             let mut long = vec![0xFF, 0xFF, 1, self.random.pick(&[1, 2, 3])];
             long.resize(65_537 - self.random.below(2), 7);
-            input.extend(long);
-            self.ask(program, &input, Way::File);
-            self.ask(program, &input, Way::Pipe(5000));
+            for record in [long, accepted(&mut self.random)] {
+                let input = [&start[..], &record].concat();
+                self.ask(program, &input, Way::File);
+                self.ask(program, &input, Way::Pipe(5000));
+            }
         }
     }
 
@@ -249,20 +231,20 @@ impl Run {
         let before = (self.inputs, self.records);
         self.unreadable(program);
         self.truncated(program);
-        self.longest(program);
+        self.over_the_end(program);
         for _ in 0..times {
             let damaged = self.random.below(3) != 0;
-            let input = self.any_run(5, damaged);
+            let input = any_floor(&mut self.random, 5, damaged);
             let way = self.way();
             self.ask(program, &input, way);
         }
         for _ in 0..times / 50 {
             let damaged = self.random.below(2) != 0;
-            let mut input = self.any_run(600, damaged);
+            let mut input = any_floor(&mut self.random, 600, damaged);
             let way = self.way();
             self.ask(program, &input, way);
             let count = self.random.below(20_000);
-            input = self.quiet_run(count);
+            input = quiet_floor(&mut self.random, count);
             if damaged {
                 input.extend(damaged_record(&mut self.random));
             }
@@ -277,6 +259,24 @@ impl Run {
             begun.elapsed().as_secs_f64()
         );
     }
+
+    /// Prints the counts, and answers the exit status.
+    fn report(&self) -> i32 {
+        println!(
+            "{} inputs, {} records, {} bytes; told none refused {}, then by number 1 to 9: {:?}; {} differ",
+            self.inputs,
+            self.records,
+            self.bytes,
+            self.met[0],
+            &self.met[1..],
+            self.wrong
+        );
+        let missed = self.met.contains(&0);
+        if missed {
+            println!("a refusal was never met");
+        }
+        i32::from(self.wrong != 0 || missed)
+    }
 }
 
 /// More than 4 GiB of accepted records, then one that is refused: its offset must be exact.
@@ -284,10 +284,7 @@ fn far(program: &Path) -> bool {
     let mut random = Random::new(4);
     let mut block = Vec::new();
     while block.len() < 1 << 20 {
-        let bytes = good_record(&mut random);
-        if rule_plan::record(&START, &bytes).is_ok() {
-            block.extend(bytes);
-        }
+        block.extend(accepted(&mut random));
     }
     let times = (4_300_000_000 / block.len()) + 1;
     let at = times as u64 * block.len() as u64;
@@ -338,20 +335,8 @@ pub fn main() -> i32 {
         met: [0; 10],
     };
     run.all(&native, times);
+    run.interrupted(&native, times / 20);
     run.all(Path::new("../relate"), times / 20);
     let _ = fs::remove_file(&run.file);
-    println!(
-        "{} inputs, {} records, {} bytes; told none refused {}, then by number 1 to 9: {:?}; {} differ",
-        run.inputs,
-        run.records,
-        run.bytes,
-        run.met[0],
-        &run.met[1..],
-        run.wrong
-    );
-    let missed = run.met.contains(&0);
-    if missed {
-        println!("a refusal was never met");
-    }
-    i32::from(run.wrong != 0 || missed)
+    run.report()
 }

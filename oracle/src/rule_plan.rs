@@ -1,10 +1,11 @@
-//! Document 01's rules for plan records, and what each call on ends, records, reports, outlines and texts must answer.
-//! The rules for stars stand in rule_star.rs, those for reports in rule_report.rs, those for outlines in
-//! rule_outline.rs, those for shapes' texts in rule_wkt.rs.
+//! Document 01's rules for plan records, and what each call on ends, records, reports, outlines, texts and floors must
+//! answer. The rules for stars stand in rule_star.rs, those for reports in rule_report.rs, those for outlines in
+//! rule_outline.rs, those for shapes' texts in rule_wkt.rs, those for floors in rule_floor.rs.
 
 use crate::ours::plans::{LABELS, PlanCall, PlanOp};
 use crate::ours::shape_room::ShapeRoom;
 use crate::rule::{self, BAD_CODE, refusal};
+use crate::rule_floor;
 use crate::rule_outline;
 use crate::rule_report;
 use crate::rule_star::{
@@ -18,7 +19,7 @@ pub const BAD_VERSION: u32 = refusal(2);
 pub const BAD_KIND: u32 = refusal(3);
 
 /// The numbers that each function can give: a run that doesn't meet all of them has looked at too little.
-pub const REACHABLE: [(PlanOp, &[u32]); 10] = [
+pub const REACHABLE: [(PlanOp, &[u32]); 12] = [
     (PlanOp::Bundle, &[4, 5, 6, 7, 8]),
     (PlanOp::Star, &[4, 5, 6, 7, 8, 9]),
     (PlanOp::Record, &[1, 2, 3, 4, 5, 6, 7, 8, 9]),
@@ -29,6 +30,8 @@ pub const REACHABLE: [(PlanOp, &[u32]); 10] = [
     (PlanOp::PointInOutline, &[16, 17, 18]),
     (PlanOp::ReadWkt, &[16, 17, 19, 22]),
     (PlanOp::WriteWkt, &[12, 16, 17]),
+    (PlanOp::Floor, &[1, 2, 3, 4, 5, 6, 7, 8, 9]),
+    (PlanOp::Pieces, &[1, 2, 3, 4, 5, 6, 7, 8, 9]),
 ];
 
 /// What a call must answer, and every byte that it was lent, afterwards.
@@ -63,6 +66,8 @@ fn outcome_by(call: &PlanCall, collapsed: Collapsed) -> PlanOutcome {
             Ok(text) => put(call, text.as_bytes()),
             Err(word) => same(call, word),
         },
+        PlanOp::Floor | PlanOp::OneByOne => rule_floor::whole(call),
+        PlanOp::Pieces => rule_floor::in_pieces(call),
     }
 }
 

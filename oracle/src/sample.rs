@@ -12,6 +12,7 @@ use crate::pieces::{
 };
 use crate::random::Random;
 use crate::rule::{self, Outcome};
+use crate::sample_floors;
 use crate::sample_line::{self, Case};
 use crate::sample_outlines;
 use crate::sample_plans;
@@ -75,6 +76,7 @@ pub fn main() {
     for (head, calls) in [
         (sample_outlines::HEAD, sample_outlines::calls()),
         (sample_wkt::HEAD, sample_wkt::calls()),
+        (sample_floors::HEAD, sample_floors::calls()),
     ] {
         lines.push_str(head);
         met.extend(sample_plans::write_lines(&mut lines, &calls));

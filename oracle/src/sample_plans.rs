@@ -1,8 +1,9 @@
-//! The sample's lines of bundles, stars, plan records and stored reports, and the writing of these, of outlines and of
-//! shapes' texts.
+//! The sample's lines of bundles, stars, plan records and stored reports, and the writing of these, of outlines, of
+//! shapes' texts and of floors.
 
 use crate::asked_star::{self, PlanSaid};
 use crate::listed;
+use crate::ours::floor_room::{self, FloorRoom};
 use crate::ours::plans::{self, PlanCall, PlanOp};
 use crate::ours::shape_room::ShapeRoom;
 use crate::plan_pieces::{
@@ -347,6 +348,9 @@ fn letter(op: PlanOp) -> char {
         PlanOp::PointInOutline => 'I',
         PlanOp::ReadWkt => 'J',
         PlanOp::WriteWkt => 'U',
+        PlanOp::Floor => 'A',
+        PlanOp::Pieces => 'Y',
+        PlanOp::OneByOne => unreachable!("the lines of records have these"),
     }
 }
 
@@ -395,6 +399,9 @@ fn given_and_due(call: &PlanCall, due: &PlanOutcome) -> (Vec<u8>, Vec<u8>) {
             [high_bytes_first(&call.out), given].concat(),
             [high_bytes_first(&due.out), due.bytes.clone()].concat(),
         ),
+        PlanOp::Floor | PlanOp::OneByOne | PlanOp::Pieces => {
+            (given, FloorRoom::from_le_bytes(&due.out).to_be_bytes())
+        }
     }
 }
 
@@ -420,6 +427,13 @@ fn write_line(lines: &mut String, call: &PlanCall, due: &PlanOutcome) {
         PlanOp::WriteWkt => {
             case.cells[0] = u8::try_from(call.a).expect("a kind of one byte");
             case.dimension = call.numbers().len() as u8;
+        }
+        PlanOp::Floor | PlanOp::OneByOne => {
+            case.cells = FloorRoom::from_le_bytes(&call.out).cells;
+        }
+        PlanOp::Pieces => {
+            case.cells = FloorRoom::from_le_bytes(&call.out).cells;
+            case.dimension = floor_room::counts(&call.out)[0] as u8;
         }
     }
     case.write(lines, letter(call.op));

@@ -1,8 +1,8 @@
 //! A gateway loop: it keeps one room's matrix, pours plan records into it, and stops asking as soon as the answer is for
 //! good.
 //!
-//!     cargo run --example gateway_loop              the records below
-//!     cargo run --example gateway_loop - < FILE     records from standard input, one after the other
+//!     cargo run --example gateway_loop              the records below, as messages and as one block
+//!     cargo run --example gateway_loop - < FILE     a floor from standard input, in pieces of sixteen bytes
 //!
 //! A is the gateway's cover area, B the room. The four questions stand for what the gateway does with a reading; a question
 //! that no further record can change is answered once and not asked again. When all are answered, the records that are
@@ -11,7 +11,12 @@
 use std::env;
 use std::io::{self, Read};
 
-use misonkandi::{CoordPos, EdgeEnd, IntersectionMatrix, Label, Predicate, Record, Refusal, Sides};
+use misonkandi::{
+    CoordPos, EdgeEnd, Floor, IntersectionMatrix, Label, Pieces, Predicate, Record, Refusal, Sides,
+};
+
+/// How many bytes the gateway's radio brings at once.
+const PIECE: u64 = 16;
 
 /// The questions of this gateway, and what it does at a yes.
 const QUESTIONS: [(Predicate, &str); 4] = [
@@ -41,18 +46,24 @@ impl Room {
         }
     }
 
-    /// Pours one record, or says why not; then the matrix is as it was. Answers the bytes used.
-    fn pour(&mut self, bytes: &[u8]) -> Option<usize> {
+    /// Pours one record, or says why not; then the matrix is as it was.
+    fn pour(&mut self, bytes: &[u8]) {
         match self.matrix.pour_record(bytes) {
-            Ok(used) => {
-                println!("{used} bytes used, the matrix is {}", self.matrix);
-                Some(used)
-            }
-            Err(refusal) => {
-                println!("{refusal}; the matrix stays {}", self.matrix);
-                None
-            }
+            Ok(used) => println!("{used} bytes used, the matrix is {}", self.matrix),
+            Err(refusal) => println!("{refusal}; the matrix stays {}", self.matrix),
         }
+        self.ask();
+    }
+
+    /// Takes what has come of a floor so far.
+    fn take(&mut self, floor: &Floor) {
+        self.matrix = floor.matrix();
+        let (records, used) = (floor.records, floor.used);
+        println!(
+            "records accepted: {records}, bytes used: {used}, the matrix is {}",
+            self.matrix
+        );
+        self.ask();
     }
 
     /// Asks the open questions, and keeps those that are still open.
@@ -97,35 +108,63 @@ fn messages(room: &mut Room, records: &[(&str, Vec<u8>)]) {
             return;
         }
         print!("{what}: ");
-        if room.pour(record).is_some() {
-            room.ask();
-        }
+        room.pour(record);
     }
 }
 
-/// Records in one run of bytes: a record that is refused ends it, since nobody knows where the next one begins.
-fn run(room: &mut Room, bytes: &[u8]) {
-    let mut offset = 0;
-    while offset < bytes.len() && !room.open.is_empty() {
-        print!("record at {offset}: ");
-        let Some(used) = room.pour(&bytes[offset..]) else {
-            return;
-        };
-        offset += used;
-        room.ask();
+/// A floor in one block, and so in one call. A refused record ends it, since nobody knows where the next one begins;
+/// those before it stay.
+fn block(room: &mut Room, bytes: &[u8]) {
+    print!("one block of {} bytes: ", bytes.len());
+    let floor = room.matrix.pour_floor(bytes);
+    room.take(&floor);
+    tell_refusal(&floor);
+}
+
+fn tell_refusal(floor: &Floor) {
+    if let Some(refusal) = floor.refusal {
+        println!("record at {}: {refusal}", floor.used);
     }
-    println!("{offset} of {} bytes read", bytes.len());
+}
+
+/// A floor that comes in pieces, which end anywhere: nothing is gathered, and reading stops when no question is open.
+fn pieces(room: &mut Room, mut from: impl Read) -> io::Result<()> {
+    let mut pieces = Pieces::new(room.matrix);
+    loop {
+        let mut bytes = Vec::new();
+        from.by_ref().take(PIECE).read_to_end(&mut bytes)?;
+        if bytes.is_empty() {
+            tell_refusal(&pieces.finish());
+            return Ok(());
+        }
+        print!("{} bytes came: ", bytes.len());
+        let pushed = pieces.push(&bytes);
+        room.take(&pieces.finish());
+        if pushed.is_err() {
+            tell_refusal(&pieces.finish());
+            return Ok(());
+        }
+        if room.open.is_empty() {
+            println!("all questions are answered: the rest needn't be read");
+            return Ok(());
+        }
+    }
 }
 
 fn main() -> io::Result<()> {
     let mut room = Room::new();
     println!("start: the matrix is {}", room.matrix);
     if env::args().nth(1).as_deref() == Some("-") {
-        let mut bytes = Vec::new();
-        io::stdin().read_to_end(&mut bytes)?;
-        run(&mut room, &bytes);
+        pieces(&mut room, io::stdin().lock())?;
     } else {
-        messages(&mut room, &built_in().expect("good records"));
+        let mut records = built_in().expect("good records");
+        let floor = records.iter().flat_map(|(_, record)| record.clone());
+        let floor = floor.collect::<Vec<_>>();
+        let torn = records[2].1[..40].to_vec();
+        records.insert(1, ("a message torn off on the way", torn));
+        messages(&mut room, &records);
+        room = Room::new();
+        block(&mut room, &floor);
     }
     room.close();
     Ok(())
@@ -168,7 +207,6 @@ fn built_in() -> Result<Vec<(&'static str, Vec<u8>)>, Refusal> {
             "a corner of the cover area, outside the room",
             node([OnBoundary, Outside], &[])?,
         ),
-        ("a message torn off on the way", crossed[..40].to_vec()),
         (
             "a corner of the room, on the cover area's outline",
             node([OnBoundary; 2], &[])?,

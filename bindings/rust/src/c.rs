@@ -1,9 +1,11 @@
 //! The library's C interface, as crates/misonkandi/misonkandi.h declares it, and the only unsafe code over it. The file
 //! names nothing of the crate around it: the oracle compiles it too (`#[path]`), and calls the library by it.
 //!
-//! A fixed number of bytes crosses as a reference to an array, which C sees as a pointer. A slice crosses as its pointer
-//! and its count; that of an empty one leads nowhere, and the library doesn't follow it.
+//! A fixed number of bytes crosses as a reference to an array, a state as one to its struct; C sees a pointer. A slice
+//! crosses as its pointer and its count; that of an empty one leads nowhere, and the library doesn't follow it.
 #![allow(dead_code, unused_imports)] // The oracle uses some of it, and so does a build without stars.
+
+use core::mem::offset_of;
 
 /// What the three calls that take a predicate answer where there is no such one. No answer and no refusal equals it.
 pub const NO_SUCH_ROW: u32 = 0xFFFF_FFFF;
@@ -11,9 +13,46 @@ pub const NO_SUCH_ROW: u32 = 0xFFFF_FFFF;
 /// A refusal is this, plus 256 times its number, plus its place. A word below it is an answer.
 pub const REFUSED: u32 = 1 << 31;
 
+/// What is kept of a floor that comes in pieces, laid out as the header's struct. Numbers alone, so any bytes are one.
+#[repr(C)]
+#[derive(Clone, Copy)]
+pub struct Pieces {
+    pub used: u64,
+    pub records: u64,
+    pub count: u64,
+    pub stop: u32,
+    pub cells: [u8; 9],
+    pub held: [u8; 490],
+}
+
+impl Pieces {
+    /// Zeros, to be lent to [`start`].
+    pub const BLANK: Pieces = Pieces {
+        used: 0,
+        records: 0,
+        count: 0,
+        stop: 0,
+        cells: [0; 9],
+        held: [0; 490],
+    };
+}
+
+// Where each field lies, as C lays the header's struct out.
+const _: () = {
+    assert!(offset_of!(Pieces, used) == 0);
+    assert!(offset_of!(Pieces, records) == 8);
+    assert!(offset_of!(Pieces, count) == 16);
+    assert!(offset_of!(Pieces, stop) == 24);
+    assert!(offset_of!(Pieces, cells) == 28);
+    assert!(offset_of!(Pieces, held) == 37);
+    assert!(size_of::<Pieces>() == 528);
+};
+
 mod declared {
+    use super::Pieces;
+
     // SAFETY: these are the header's declarations, and libmisonkandi.a is built with it. Each function is proved to touch
-    // what it is lent and nothing else, to keep no pointer and to end. Those marked safe are lent arrays alone.
+    // what it is lent and nothing else, to keep no pointer and to end. Those marked safe are lent arrays and states alone.
     unsafe extern "C" {
         pub safe fn misonkandi_predicates(cells: &[u8; 9]) -> u32;
         pub safe fn misonkandi_predicate(cells: &[u8; 9], row: u32) -> u32;
@@ -41,6 +80,13 @@ mod declared {
             cells: &mut [u8; 9],
         ) -> u32;
 
+        pub safe fn misonkandi_start(state: &mut Pieces, cells: &[u8; 9]);
+        pub safe fn misonkandi_finish(
+            state: &Pieces,
+            cells: &mut [u8; 9],
+            answer: &mut [u64; 2],
+        ) -> u32;
+
         pub fn misonkandi_predicate_named(name: *const u8, count: usize) -> u32;
         pub fn misonkandi_matches(cells: &[u8; 9], pattern: *const u8, count: usize) -> u32;
         pub fn misonkandi_verdict_pattern(cells: &[u8; 9], pattern: *const u8, count: usize)
@@ -60,6 +106,13 @@ mod declared {
             labels: &mut [u8; 224],
         ) -> u32;
         pub fn misonkandi_record(cells: &mut [u8; 9], bytes: *const u8, count: usize) -> u32;
+        pub fn misonkandi_floor(
+            cells: &mut [u8; 9],
+            bytes: *const u8,
+            count: usize,
+            answer: &mut [u64; 2],
+        ) -> u32;
+        pub fn misonkandi_push(state: &mut Pieces, bytes: *const u8, count: usize) -> u32;
         pub fn misonkandi_read_report(cells: &mut [u8; 9], bytes: *const u8, count: usize) -> u32;
         pub fn misonkandi_write_report(
             cells: &[u8; 9],
@@ -98,10 +151,12 @@ mod declared {
     }
 }
 
+pub use declared::misonkandi_finish as finish;
 pub use declared::misonkandi_predicate as predicate;
 pub use declared::misonkandi_predicates as predicates;
 pub use declared::misonkandi_set as set;
 pub use declared::misonkandi_set_at_least as set_at_least;
+pub use declared::misonkandi_start as start;
 pub use declared::misonkandi_to_text as to_text;
 pub use declared::misonkandi_transpose as transpose;
 pub use declared::misonkandi_verdict as verdict;
@@ -151,6 +206,16 @@ pub fn star(ends: &[u8], area_a: u32, area_b: u32, labels: &mut [u8; 224]) -> u3
 pub fn record(cells: &mut [u8; 9], bytes: &[u8]) -> u32 {
     // SAFETY: pointer and count are those of one slice, lent to be read until the call ends; the cells lie elsewhere.
     unsafe { declared::misonkandi_record(cells, bytes.as_ptr(), bytes.len()) }
+}
+
+pub fn floor(cells: &mut [u8; 9], bytes: &[u8], answer: &mut [u64; 2]) -> u32 {
+    // SAFETY: pointer and count are those of one slice, lent to be read until the call ends; both arrays lie elsewhere.
+    unsafe { declared::misonkandi_floor(cells, bytes.as_ptr(), bytes.len(), answer) }
+}
+
+pub fn push(state: &mut Pieces, bytes: &[u8]) -> u32 {
+    // SAFETY: pointer and count are those of one slice, lent to be read until the call ends; the state lies elsewhere.
+    unsafe { declared::misonkandi_push(state, bytes.as_ptr(), bytes.len()) }
 }
 
 pub fn read_report(cells: &mut [u8; 9], bytes: &[u8]) -> u32 {

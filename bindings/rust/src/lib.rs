@@ -21,8 +21,8 @@
 //! # Ok::<(), Refusal>(())
 //! ```
 //!
-//! [`Outline`] says where a point lies against a room's walls. [`Shape`] is a point, a line or a polygon, read from WKT
-//! text and written as such.
+//! [`floor`] pours a whole floor of records in one call, and [`Pieces`] one that comes in pieces. [`Outline`] says where
+//! a point lies against a room's walls. [`Shape`] is a point, a line or a polygon, read from WKT text and written as such.
 //!
 //! What differs from geo: a refusal is a number and a place, not a text; a bad letter of a pattern is refused on every
 //! matrix; raising from text is all or nothing; any line on a geometry's boundary collapses it at a node, not only the
@@ -40,6 +40,7 @@ extern crate alloc;
 #[allow(unsafe_code)]
 mod c;
 mod corners;
+mod floor;
 mod matrix;
 mod outline;
 mod place;
@@ -53,6 +54,7 @@ mod star;
 mod verdict;
 
 pub use corners::MOST_CORNERS;
+pub use floor::{Floor, PIECES_BYTES, Pieces, floor};
 pub use matrix::IntersectionMatrix;
 pub use outline::{Outline, point_in_outline};
 pub use place::{Coord, Place, relate_coded};

@@ -4,6 +4,7 @@ use core::fmt;
 use core::str::FromStr;
 
 use crate::c;
+use crate::floor::{Floor, floor};
 use crate::positions::{CoordPos, Dimensions};
 use crate::predicate::Predicate;
 use crate::refusal::{Refusal, answered};
@@ -287,6 +288,27 @@ impl IntersectionMatrix {
     /// ```
     pub fn pour_record(&mut self, bytes: &[u8]) -> Result<usize, Refusal> {
         answered(c::record(&mut self.cells, bytes)).map(|used| used as usize)
+    }
+
+    /// Pours a floor into the matrix, in one call: its records one by one, up to the first that is refused. That one changes
+    /// nothing, and the earlier ones stay.
+    ///
+    /// Promised: `floorOf`, crates/plan/specs/Floor.antt; no cell falls (`run-rises`, crates/plan/proofs/LawsRun.antt).
+    ///
+    /// ```
+    /// use misonkandi::{IntersectionMatrix, Refusal};
+    ///
+    /// // A node that lies in A's interior and on B's boundary, and the first bytes of another.
+    /// let bytes = [0, 7, 1, 1, 1, 2, 0, 0, 0, 0, 7, 1];
+    /// let mut matrix = IntersectionMatrix::empty_disjoint();
+    /// let floor = matrix.pour_floor(&bytes);
+    /// assert_eq!((floor.used, floor.records, floor.refusal), (9, 1, Some(Refusal::Short)));
+    /// assert_eq!(matrix.to_string(), "F0FFFFFF2");
+    /// ```
+    pub fn pour_floor(&mut self, bytes: &[u8]) -> Floor {
+        let floor = floor(self.cells, bytes);
+        *self = floor.matrix();
+        floor
     }
 }
 

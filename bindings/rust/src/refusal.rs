@@ -5,13 +5,14 @@ use core::fmt;
 
 use crate::c;
 
-/// Why a call was refused. A refused call changes nothing that it was lent.
+/// Why a call was refused. A refused call changes nothing that it was lent; of a floor it is a record that is refused, and
+/// the records before it stay.
 ///
 /// The numbers are those of document 01's table "Numbers the caller sees"; 14 is request R-3's of document 02, 16 to 18
 /// are R-8's, 19 and 22 R-9's. Under which condition each is given, and in which order they are looked at, is proved of
 /// the operation that gives it: `crates/de9im/specs/Patterns.antt` and `Text.antt` for 10 and 11,
-/// `crates/plan/specs/Record.antt` for records, `crates/report/specs/Report.antt` and `Converting.antt` for reports,
-/// `crates/star/specs/Calls.antt` for ends, `crates/place/specs/Relate.antt` for 13,
+/// `crates/plan/specs/Record.antt` and `Floor.antt` for records, `crates/report/specs/Report.antt` and `Converting.antt`
+/// for reports, `crates/star/specs/Calls.antt` for ends, `crates/place/specs/Relate.antt` for 13,
 /// `crates/outline/specs/Answer.antt` for outlines, `crates/grammar/specs/ReadAs.antt` and
 /// `crates/wkt/specs/Write.antt` for shapes as text.
 #[derive(Clone, Copy, Debug, PartialEq, Eq, Hash)]

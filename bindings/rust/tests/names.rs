@@ -5,8 +5,8 @@ use std::fs;
 
 use misonkandi::{
     CoordPos, Dimensions, END_BYTES, LABEL_BYTES, MOST_CORNERS, MOST_ENDS, MOST_RECORD_BYTES,
-    MOST_WKT_BYTES, NoSuchPredicate, Predicate, REPORT_BYTES, Refusal, SHORT_REPORT_BYTES,
-    ShapeKind,
+    MOST_WKT_BYTES, NoSuchPredicate, PIECES_BYTES, Predicate, REPORT_BYTES, Refusal,
+    SHORT_REPORT_BYTES, ShapeKind,
 };
 
 const FOLDER: &str = env!("CARGO_MANIFEST_DIR");
@@ -64,7 +64,36 @@ fn the_header_s_functions_are_the_crate_s() {
     let (header, crate_s) = (header(), read("src/c.rs"));
     let names = declared(&header);
     assert_eq!(names, declared(&crate_s));
-    assert_eq!(names.len(), 23);
+    assert_eq!(names.len(), 27);
+}
+
+/// The lines between the braces of a struct, without what is said of them.
+fn inside<'a>(text: &'a str, first: &str) -> Vec<&'a str> {
+    let inside = text.split_once(first).expect("the struct").1;
+    let inside = inside.split('}').next().expect("a part");
+    let lines = inside
+        .lines()
+        .map(|line| line.split("/*").next().expect("a part").trim());
+    lines.filter(|line| !line.is_empty()).collect()
+}
+
+/// A field of C as Rust writes it.
+fn field(line: &str) -> String {
+    let (kind, name) = line.split_once(' ').expect("a type and a name");
+    let kind = kind.trim_start_matches("uint").trim_end_matches("_t");
+    match name.trim_end_matches([']', ';']).split_once('[') {
+        Some((name, count)) => format!("pub {name}: [u{kind}; {count}],"),
+        None => format!("pub {}: u{kind},", name.trim_end_matches(';')),
+    }
+}
+
+#[test]
+fn the_header_s_state_is_the_crate_s() {
+    let (header, crate_s) = (header(), read("src/c.rs"));
+    let state = inside(&header, "typedef struct misonkandi_pieces {");
+    let state = state.into_iter().map(field).collect::<Vec<_>>();
+    assert_eq!(state, inside(&crate_s, "pub struct Pieces {"));
+    assert_eq!(state.len(), 6);
 }
 
 /// The value of a name of the header, from its `#define` or its enum. An enum's case without a number follows the last.
@@ -177,6 +206,7 @@ fn the_header_s_numbers_are_the_crate_s() {
         ("MOST_ENDS", MOST_ENDS),
         ("MOST_RECORD_BYTES", MOST_RECORD_BYTES),
         ("MOST_WKT_BYTES", MOST_WKT_BYTES),
+        ("PIECES_BYTES", PIECES_BYTES),
         ("REPORT_BYTES", REPORT_BYTES),
         ("SHORT_REPORT_BYTES", SHORT_REPORT_BYTES),
     ];

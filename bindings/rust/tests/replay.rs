@@ -6,8 +6,9 @@ use std::fs;
 
 use misonkandi::{
     CoordPos, END_BYTES, EdgeEnd, IntersectionMatrix, LABEL_BYTES, Label, MOST_ENDS, Outline,
-    Place, Predicate, Refusal, Shape, ShapeKind, Verdict, bundle, bundle_of_bytes, convert_report,
-    point_in_outline, read_wkt, relate_coded, star, star_of_bytes, write_wkt,
+    Pieces, Place, Predicate, Refusal, Shape, ShapeKind, Verdict, bundle, bundle_of_bytes,
+    convert_report, floor, point_in_outline, read_wkt, relate_coded, star, star_of_bytes,
+    write_wkt,
 };
 
 const FOLDER: &str = concat!(env!("CARGO_MANIFEST_DIR"), "/../../crates/replay/");
@@ -280,6 +281,31 @@ fn record_case(kind: char, case: &Case) {
     }
 }
 
+/// A, Y: a floor in one call, or in two pieces, the first of as many bytes as the dimension says. What is due is nine
+/// cells, as they came where nothing is accepted, then the bytes used and the records, eight bytes each.
+fn floor_case(kind: char, case: &Case) {
+    let told = match kind {
+        'A' => floor(case.cells, &case.given),
+        _ => {
+            let mut pieces = Pieces::from_cells(case.cells);
+            let (first, rest) = case.given.split_at(case.dimension.into());
+            let pushed = [first, rest].map(|piece| pieces.push(piece).err());
+            let told = pieces.finish();
+            let for_good = told.refusal.filter(|&refusal| refusal != Refusal::Short);
+            assert_eq!(pushed[1], for_good);
+            assert!(pushed[0].is_none() || pushed[0] == for_good);
+            told
+        }
+    };
+    case.says(told.refusal.map_or(Ok(0), Err));
+    let numbers = [told.used, told.records].map(u64::to_be_bytes);
+    case.holds(&[&told.cells(), numbers.as_flattened()].concat());
+
+    let mut matrix = case.matrix();
+    assert_eq!(matrix.pour_floor(&case.given).refusal, told.refusal);
+    assert_eq!(matrix, told.matrix());
+}
+
 fn coordinate(byte: u8) -> f64 {
     match byte {
         0xfc => -0.0,
@@ -404,6 +430,7 @@ fn every_stored_answer() {
             'O' | 'X' | 'S' | 'L' => cell_case(kind, &case),
             'B' | 'K' => ends_case(kind, &case),
             'N' | 'D' | 'E' | 'F' | 'C' => record_case(kind, &case),
+            'A' | 'Y' => floor_case(kind, &case),
             'G' => place_case(&case),
             'I' => outline_case(&case),
             'J' => read_case(&case),
@@ -417,8 +444,8 @@ fn every_stored_answer() {
     }
     assert_eq!(
         seen.len(),
-        23,
-        "a kind of line for each call of the library"
+        25,
+        "a kind of line for each call of the library, one for the three of a floor in pieces"
     );
     // No line was passed over: the replay of the C interface has the same number.
     let total = format!("{} replayed, 0 differ\n", seen.values().sum::<usize>());

@@ -6,3 +6,4 @@ pub mod Places
 pub mod Stars
 pub mod Verdicts
 pub mod Outlines
+pub mod Floors

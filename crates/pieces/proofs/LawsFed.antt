@@ -1,4 +1,5 @@
--- Laws of joining: laid behind the part that is held, the new bytes make the front of both; and what is then answered is the answer to both.
+-- Laws of joining: laid behind the part that is held, the new bytes make the front of both; and what is then answered is the answer to
+-- both.
 -- Assumes nothing.
 use Prim.Native.Nat.{ℕ, _+_, _-_, _≤_, _<_, min}
 use mathlib.Core.Path.{_≡_, refl, sym, ap, subst, _∙_}
@@ -56,7 +57,8 @@ module _ (g f a : FloorAnswer) (bytes held blank : List ℕ) (l : ℕ) (is-f : f
       record {
         floor = is-a ∙ ap (added g) is-f;
         rest = λ e.
-            subst (λ (x : FloorAnswer). Kept (drop (x .used) bytes) (record { floor = a; held = held; count = length bytes - f .used })) is-f
+            let s : State = record { floor = a; held = held; count = length bytes - f .used } in
+            subst (λ (x : FloorAnswer). Kept (drop (x .used) bytes) s) is-f
             (record { count = sym (length-drop (f .used) bytes); front = tail-held });
       }
 
@@ -158,7 +160,8 @@ module _ (rest new old held : List ℕ) (count at more : ℕ) (all-of : count �
           empty : length (rest ++ new) ≡ 0 → stopAt (g .cells) held need (min need (count + length new)) Fine ≡ Fine
           empty z =
               told (leb need frontSize) (λ p. rw p refl) (λ p.
-              let q : ltb (min need (count + length new)) need ≡ true = lt-ltb (min need (count + length new)) need (omega (arith, whole)) in
+              let come = min need (count + length new) in
+              let q : ltb come need ≡ true = lt-ltb come need (omega (arith, whole)) in
               rw (p, q) refl)
 
           by : Asked (g .cells) rest (frontOf (rest ++ new)) → floorOf (g .cells) (rest ++ new) ≡ stoppedAs (left .floor .stop) (g .cells)

@@ -164,7 +164,8 @@ module _ (c all held : List ℕ) (room : length held ≡ frontSize) (is : take (
         let p = same-promise frontSize all (omega arith) in
         let q = promises (omega arith) in
         let lacking = lacks (frontOf all) (omega (arith, few)) (omega (arith, few)) in
-        let one : recordOf c (frontOf all) .answer ≡ A.Refused Short = ap (λ (x : BytesAnswer). x .answer) (short-answer c (frontOf all) lacking) in
+        let one : recordOf c (frontOf all) .answer ≡ A.Refused Short =
+        ap (λ (x : BytesAnswer). x .answer) (short-answer c (frontOf all) lacking) in
         let e : Short ≡ r = cc in
         floor-part c all (omega arith) (lacks all (omega arith) (omega arith)) ∙ ap (λ (x : Refusal). stoppedAs (Refused x) c) e
 
@@ -173,8 +174,11 @@ module _ (c all held : List ℕ) (room : length held ≡ frontSize) (is : take (
         told (leb (2 + promised held) frontSize) (λ p. rw p (within (leb-true _ _ p))) (λ p.
         told (ltb (min (2 + promised held) (length all)) (2 + promised held))
         (λ q. rw (p, q) (beyond (leb-false _ _ p) (ltb-true _ _ q)))
-        (λ q. rw (p, q) (long (alike (leb-false _ _ p) (let h : 2 + promised held ≤ min (2 + promised held) (length all) = ltb-false _ _ q in omega arith)))))
+        (λ q. rw (p, q) (long (alike (leb-false _ _ p) (come (ltb-false _ _ q))))))
       where
+        come : 2 + promised held ≤ min (2 + promised held) (length all) → 2 + promised held ≤ length all
+        come h = omega arith
+
         within : 2 + promised held ≤ frontSize → floorOf c all ≡ stoppedAs (Refused r) c
         within n = told (leb (length all) frontSize) (λ p. small (leb-true _ _ p)) (λ p. inside (leb-false _ _ p) n)
 

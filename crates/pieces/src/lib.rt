@@ -2,4 +2,5 @@
 // another language can push what it has.
 mod front;
 mod joining;
+pub mod lent;
 pub mod pieces;

@@ -1,6 +1,7 @@
 // A case: a letter for the call, then bytes in hex. These are the nine cells lent, the answer's word (4 bytes), two numbers a and b
 // (4 each), a dimension, the count of bytes given (2), the bytes given, and what the call must leave in what it may write. Numbers
 // have their high byte first. Zeros at the end of a case may be left off.
+use crate::floor_calls;
 use crate::matrix_calls;
 use crate::outline_calls;
 use crate::plan_calls;
@@ -62,6 +63,15 @@ pub(crate) fn four(a: u8, b: u8, c: u8, d: u8) -> u32 {
     16777216 * wide(a) + 65536 * wide(b) + 256 * wide(c) + wide(d)
 }
 
+// A number of eight bytes.
+pub(crate) fn eight(s: &[u8], at: usize) -> u64
+    requires { ⌜ 8 + at ≤ length (now s) ⌝ }
+{
+    let high = four(s[at], s[at + 1], s[at + 2], s[at + 3]);
+    let low = four(s[at + 4], s[at + 5], s[at + 6], s[at + 7]);
+    4294967296 * (high as u64) + (low as u64)
+}
+
 fn head_of(c: Case) -> Head {
     Head {
         cells: [c[0], c[1], c[2], c[3], c[4], c[5], c[6], c[7], c[8]],
@@ -79,8 +89,8 @@ fn count(c: Case) -> usize
     least((256 * wide(c[22]) + wide(c[23])) as usize, 600)
 }
 
-// How many bytes a call may write: a label, a star's labels, a text's answers and numbers, a buffer within n bytes, or nine cells or
-// letters.
+// How many bytes a call may write: a label, a star's labels, cells and two answers, a text's answers and numbers, a buffer within n
+// bytes, or nine cells or letters.
 fn room(letter: u8, n: usize) -> usize
     requires { ⌜ n ≤ 600 ⌝ }
     ensures { λ r. ⌜ n + r ≤ 1256 ⌝ }
@@ -88,6 +98,7 @@ fn room(letter: u8, n: usize) -> usize
     match letter {
         b'B' => 7,
         b'K' => 224,
+        b'A' | b'Y' => 25,
         b'J' => 536,
         b'U' => n,
         b'E' | b'F' | b'C' => least(n, 100),
@@ -114,6 +125,8 @@ fn asked(letter: u8, h: Head, given: &[u8], due: &[u8]) -> bool {
         b'B' => plan_calls::bundle(h, given, due),
         b'K' => plan_calls::star(h, given, due),
         b'N' => plan_calls::record(h, given, due),
+        b'A' => floor_calls::floor(h, given, due),
+        b'Y' => floor_calls::in_pieces(h, given, due),
         b'D' => plan_calls::read_report(h, given, due),
         b'I' => outline_calls::point_in_outline(h, given),
         b'J' => shape_calls::read_wkt(h, given, due),

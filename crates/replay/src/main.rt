@@ -2,6 +2,7 @@
 // prints how many were replayed and how many differ. The answers stand in the file `stdin`, a case to a line; lines that begin
 // with '#' say how it was made, how to make it again, and which case has its answer from where.
 mod case;
+mod floor_calls;
 mod matrix_calls;
 mod outline_calls;
 mod plan_calls;

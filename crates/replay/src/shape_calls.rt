@@ -1,21 +1,12 @@
 // The calls on a shape's text: each asked, and its word and what it wrote compared. What is lent to be filled holds nines.
 use crate::case::Head;
-use crate::case::four;
+use crate::case::eight;
 use crate::outline_calls::count;
 use crate::outline_calls::number;
 use crate::outline_calls::numbers;
 use crate::plan_calls::offset_of;
-ghost use Prim.Native.Nat.{_+_, _≤_};
+ghost use Prim.Native.Nat.{_≤_};
 ghost use lib.ListN.{length};
-
-// A number of eight bytes, the high one first.
-fn eight(s: &[u8], at: usize) -> u64
-    requires { ⌜ 8 + at ≤ length (now s) ⌝ }
-{
-    let high = four(s[at], s[at + 1], s[at + 2], s[at + 3]);
-    let low = four(s[at + 4], s[at + 5], s[at + 6], s[at + 7]);
-    4294967296 * (high as u64) + (low as u64)
-}
 
 fn same_answer(answer: [u64; 3], due: &[u8]) -> bool
     requires { ⌜ 24 ≤ length (now due) ⌝ }

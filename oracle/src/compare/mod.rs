@@ -1,6 +1,7 @@
 //! The comparison: the same calls to the crate and to the library, and document 01's rules beside them.
 
 mod changes;
+mod floors;
 mod matches;
 mod outlines;
 mod plan_tally;
@@ -123,6 +124,7 @@ pub fn main() -> i32 {
     stars::compare_turned(&mut run);
     wkt::compare(&mut run);
     wkt_written::compare(&mut run);
+    floors::compare(&mut run);
     run.answer_waiting();
     run.tally.report()
 }

@@ -1,8 +1,9 @@
-//! Judges one call on ends, a record, a report, an outline or a text, and counts it.
+//! Judges one call on ends, a record, a report, an outline, a text or a floor, and counts it.
 
 use super::tally::{Size, Tally};
 use crate::asked_star::{self, PlanSaid};
 use crate::listed::{self, Listed};
+use crate::ours::floor_room::{self, FloorRoom};
 use crate::ours::plans::{PlanCall, PlanOp, PlanReply};
 use crate::ours::shape_room::ShapeRoom;
 use crate::rule;
@@ -19,11 +20,50 @@ pub struct Numbers {
     /// How often a text had to be read as a point, as a line and as a polygon, and how often each had to be written.
     read: [u64; 3],
     written: [u64; 3],
+    floors: Floors,
+}
+
+/// Floors in one call.
+#[derive(Default)]
+struct Floors {
+    /// How often one had to be accepted, refused behind accepted records, and refused at its first.
+    met: [u64; 3],
+    most_records: u64,
+    /// Pieces pushed, of the same floors and others.
+    pieces: u64,
+}
+
+impl Floors {
+    fn note(&mut self, call: &PlanCall, due: &PlanOutcome) {
+        if call.op == PlanOp::Pieces {
+            self.pieces += floor_room::counts(&call.out).len() as u64;
+            return;
+        }
+        let [_, records] = FloorRoom::from_le_bytes(&due.out).answer;
+        self.most_records = self.most_records.max(records);
+        let kind = match (rule::refuses(due.word), records) {
+            (false, _) => 0,
+            (true, 1..) => 1,
+            (true, 0) => 2,
+        };
+        self.met[kind] += 1;
+    }
+
+    fn report(&self) {
+        let [good, behind, first] = self.met;
+        print!("floors: {good} accepted, {behind} refused behind accepted records, ");
+        println!("{first} refused at their first");
+        let (most, pieces) = (self.most_records, self.pieces);
+        println!("floors: at most {most} records accepted in one; {pieces} pieces pushed");
+    }
 }
 
 impl Numbers {
     /// Counts what a call had to answer.
     fn note(&mut self, call: &PlanCall, due: &PlanOutcome) {
+        if matches!(call.op, PlanOp::Floor | PlanOp::Pieces) {
+            self.floors.note(call, due);
+        }
         if let Some(number) = rule::number(due.word) {
             *self.refused.entry((call.op, number)).or_default() += 1;
             return;
@@ -56,7 +96,8 @@ impl Numbers {
         for (done, [points, lines, polygons]) in [("read", self.read), ("written", self.written)] {
             println!("texts {done}: {points} points, {lines} lines, {polygons} polygons");
         }
-        let all = [self.positions, self.read, self.written].concat();
+        self.floors.report();
+        let all = [self.positions, self.read, self.written, self.floors.met].concat();
         unmet += all.iter().filter(|count| **count == 0).count() as u64;
         if unmet != 0 {
             println!("{unmet} of the answers above were never met: the calls made are too few");
@@ -200,6 +241,11 @@ fn describe(call: &PlanCall) -> String {
             return format!("{} of \"{text}\" into {room}", call.op.name());
         }
         PlanOp::WriteWkt => format!(" of {}, {:?} at {}", call.a, call.numbers(), call.offset),
+        PlanOp::Floor | PlanOp::OneByOne | PlanOp::Pieces => {
+            let cells = FloorRoom::from_le_bytes(&call.out).cells;
+            let counts = floor_room::counts(&call.out);
+            format!(" on cells {}, pieces {counts:?}", hex(&cells))
+        }
     };
     format!("{}{given}, bytes {}", call.op.name(), hex(&call.bytes))
 }

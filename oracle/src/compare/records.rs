@@ -1,11 +1,9 @@
 //! Plan records: good ones, damaged copies, truncations, every byte set to every value.
 
 use super::Run;
+use crate::floor_pieces::accepted_node;
 use crate::ours::plans::{PlanCall, PlanOp};
-use crate::plan_pieces::{
-    damaged_record, edge_record, ends, good_record, node_record, with_bytes_after,
-};
-use crate::rule_plan;
+use crate::plan_pieces::{damaged_record, edge_record, good_record, with_bytes_after};
 
 pub fn compare(run: &mut Run) {
     run.begin("record, good, both kinds");
@@ -42,26 +40,15 @@ fn ask(run: &mut Run, bytes: Vec<u8>) {
 /// A record of kind 2, and nodes of 0 to 3 ends.
 fn small(run: &mut Run) -> Vec<Vec<u8>> {
     let mut records = vec![edge_record(&mut run.random)];
-    records.extend((0..4).map(|count| accepted(run, count)));
+    records.extend((0..4).map(|count| accepted_node(&mut run.random, count)));
     records
-}
-
-/// A node record that refusal 9 doesn't stop either.
-fn accepted(run: &mut Run, count: usize) -> Vec<u8> {
-    loop {
-        let ends = ends(&mut run.random, count);
-        let record = node_record(&mut run.random, &ends);
-        if rule_plan::record(&[0; 9], &record).is_ok() {
-            return record;
-        }
-    }
 }
 
 fn truncated(run: &mut Run) {
     run.begin("record, cut at every byte");
     for _ in 0..run.times(4) {
         let mut records = small(run);
-        records.extend([8, 31, 32].map(|count| accepted(run, count)));
+        records.extend([8, 31, 32].map(|count| accepted_node(&mut run.random, count)));
         for record in records {
             for count in 0..=record.len() {
                 ask(run, record[..count].to_vec());

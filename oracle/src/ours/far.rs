@@ -14,11 +14,11 @@ const RETURNED: usize = 4 + LENT + LONGEST;
 /// far_side.c holds one batch: the same number stands there.
 const BATCH: usize = 1024;
 
-/// Set in a batch's head if calls on ends, records, reports, outlines and texts follow; the rest of the head is their
-/// count of bytes.
+/// Set in a batch's head if calls on ends, records, reports, outlines, texts and floors follow; the rest of the head is
+/// their count of bytes.
 const PLANS: u32 = 1 << 31;
-/// far_side.c holds so many bytes of them: the same number stands there.
-const PLAN_BATCH: usize = 1 << 20;
+/// far_side.c holds so many bytes of them: the same number stands in laid.h.
+const PLAN_BATCH: usize = 1 << 22;
 /// What stands before what such a call is lent.
 const PLAN_HEAD: usize = 1 + 4 + 4 + 8 + 4 + 4;
 
@@ -113,7 +113,7 @@ impl FarSide {
     }
 }
 
-/// A call on ends, a record, a report, an outline or a text as it is sent.
+/// A call on ends, a record, a report, an outline, a text or a floor as it is sent.
 fn plan_sent(call: &PlanCall) -> Vec<u8> {
     let mut sent = vec![call.op as u8];
     sent.extend(call.a.to_le_bytes());

@@ -7,6 +7,9 @@
 
 #[cfg(far)]
 mod far;
+pub mod floor_room;
+#[cfg(all(linked, not(far)))]
+mod floors;
 #[cfg(linked)]
 #[cfg_attr(far, allow(dead_code))]
 pub mod linked;
@@ -173,7 +176,7 @@ impl Library {
             .collect()
     }
 
-    /// Answers the calls on ends, records, reports, outlines and texts in order.
+    /// Answers the calls on ends, records, reports, outlines, texts and floors in order.
     pub fn answer_plans(&mut self, calls: &[PlanCall]) -> Vec<PlanReply> {
         #[cfg(far)]
         let replies = self.side.answer_plans(calls);

@@ -1,12 +1,15 @@
-//! Calls on ends, plan records, stored reports, outlines and shapes' texts: their bytes are of any count, so they are
-//! written down apart.
+//! Calls on ends, plan records, stored reports, outlines, shapes' texts and floors: their bytes are of any count, so
+//! they are written down apart.
 //!
 //! What a call is lent stands in one stretch, with guards before, between and after: the bytes that it may write an
-//! answer into (`out`), then the ends, the record, the report, the buffer, the outline's numbers or the text
-//! (`bytes`). Converting has the buffer in `out`, since it reads a report too; writing a shape has its numbers there.
-//! The stretch is the same whether the library is linked or in a program of its own. Numbers in it have their low byte
-//! first, as x86-64 has them.
+//! answer into (`out`), then the ends, the record, the report, the buffer, the outline's numbers, the text or the floor
+//! (`bytes`). Converting has the buffer in `out`, since it reads a report too; writing a shape has its numbers there, a
+//! floor in pieces its pieces. The stretch is the same whether the library is linked or in a program of its own.
+//! Numbers in it have their low byte first, as x86-64 has them.
 
+use super::floor_room::{self, FloorRoom};
+#[cfg(all(linked, not(far)))]
+use super::floors;
 #[cfg(all(linked, not(far)))]
 use super::linked;
 use super::shape_room::ShapeRoom;
@@ -32,6 +35,11 @@ pub enum PlanOp {
     PointInOutline = 7,
     ReadWkt = 8,
     WriteWkt = 9,
+    Floor = 10,
+    /// A floor without the call above: the record call, again and again.
+    OneByOne = 11,
+    /// All calls on a floor that comes in pieces.
+    Pieces = 12,
 }
 
 impl PlanOp {
@@ -48,6 +56,9 @@ impl PlanOp {
             PlanOp::PointInOutline => "misonkandi_point_in_outline",
             PlanOp::ReadWkt => "misonkandi_read_wkt",
             PlanOp::WriteWkt => "misonkandi_write_wkt",
+            PlanOp::Floor => "misonkandi_floor",
+            PlanOp::OneByOne => "misonkandi_record, one by one",
+            PlanOp::Pieces => "misonkandi_finish",
         }
     }
 }
@@ -57,7 +68,8 @@ impl PlanOp {
 pub struct PlanCall {
     pub op: PlanOp,
     /// A label's seven bytes, the 224 of a star's labels, nine cells, the buffer of converting, the room of a shape
-    /// that is read, or the numbers of one that is written; as they are before the call.
+    /// that is read, the numbers of one that is written, or the room of a floor and its pieces; as they are before the
+    /// call.
     pub out: Vec<u8>,
     pub bytes: Vec<u8>,
     /// The area codes, the bits of the point's x and y, or a shape's kind.
@@ -149,6 +161,25 @@ impl PlanCall {
         }
     }
 
+    /// In one call, or one by one.
+    pub fn floor(op: PlanOp, cells: [u8; 9], bytes: Vec<u8>) -> Self {
+        PlanCall {
+            op,
+            out: FloorRoom::on(cells).to_le_bytes(),
+            ..PlanCall::bundle(bytes)
+        }
+    }
+
+    /// Pieces of these counts of bytes, which are all bytes together.
+    pub fn pieces(cells: [u8; 9], counts: &[usize], bytes: Vec<u8>) -> Self {
+        assert_eq!(counts.iter().sum::<usize>(), bytes.len());
+        PlanCall {
+            op: PlanOp::Pieces,
+            out: floor_room::with_pieces(cells, counts),
+            ..PlanCall::bundle(bytes)
+        }
+    }
+
     /// The numbers of an outline, or of a shape that is written.
     pub fn numbers(&self) -> Vec<i32> {
         match self.op {
@@ -231,6 +262,10 @@ pub(super) fn answer(call: &PlanCall) -> PlanReply {
         let word = read_wkt(call, &mut lent);
         return reply(call, word, &lent);
     }
+    if call.op >= PlanOp::Floor {
+        let word = floor(call, &mut lent);
+        return reply(call, word, &lent);
+    }
     let (front, back) = lent.split_at_mut(call.bytes_at().start);
     let out = &mut front[call.out_at()];
     let bytes = &mut back[..call.bytes.len()];
@@ -248,7 +283,11 @@ pub(super) fn answer(call: &PlanCall) -> PlanReply {
         }
         PlanOp::ConvertReport => linked::convert_report(bytes, out, offset),
         PlanOp::WriteWkt => linked::write_wkt(call.a, &numbers(out), bytes, offset),
-        PlanOp::PointInOutline | PlanOp::ReadWkt => unreachable!("made above"),
+        PlanOp::PointInOutline
+        | PlanOp::ReadWkt
+        | PlanOp::Floor
+        | PlanOp::OneByOne
+        | PlanOp::Pieces => unreachable!("made above"),
     };
     reply(call, word, &lent)
 }
@@ -278,6 +317,18 @@ fn read_wkt(call: &PlanCall, lent: &mut [u8]) -> u32 {
     let word = linked::read_wkt(&back[..call.bytes.len()], xy, answer);
     front[call.out_at()].copy_from_slice(&rooms[1].to_le_bytes());
     if rooms[0] != guard || rooms[2] != guard {
+        front[0] = !GUARD_BYTE;
+    }
+    word
+}
+
+/// A change where none may be shows in the stretch's first guard.
+#[cfg(all(linked, not(far)))]
+fn floor(call: &PlanCall, lent: &mut [u8]) -> u32 {
+    let (front, back) = lent.split_at_mut(call.bytes_at().start);
+    let bytes = &back[..call.bytes.len()];
+    let (word, left) = floors::answer(call.op, &mut front[call.out_at()], bytes);
+    if !left {
         front[0] = !GUARD_BYTE;
     }
     word

@@ -12,7 +12,8 @@ use Rattle.pieces.proofs.pieces.push.Tie as tie
 returns : tie.Need-returns
 returns c ns bs h =
     let s = c .before .before .before .before .before .before .before .before .args in
-    let e = one-short _ _ (c .before .before .before .before .stop .given .1) (sym (c .before .before .number .ensures) ∙ c .before .if1 .taken) in
+    let n = sym (c .before .before .number .ensures) ∙ c .before .if1 .taken in
+    let e = one-short _ _ (c .before .before .before .before .stop .given .1) n in
     goes-on ns bs (now (s .chunk)) (s .s) (c .join .result) h (c .join .ensures _ (h .rest e) (short-left ns bs (s .s) h e))
 
 returns-2 : tie.Need-returns-2
