@@ -8,6 +8,7 @@ use crate::asked_star;
 use crate::bench::Best;
 use crate::bench_plans::node;
 use crate::floor_pieces::floor;
+use crate::plan_pieces::Directions;
 use crate::random::Random;
 use crate::relate::geomgraph::intersection_matrix::IntersectionMatrix;
 use crate::rule_floor;
@@ -102,7 +103,7 @@ pub(crate) fn measure_all(random: &mut Random) {
     println!("|---|---:|---:|---:|---:|---:|");
     for size in SIZES {
         let count = RECORDS / size;
-        let square = |random: &mut Random| node(random, 4, true).record;
+        let square = |random: &mut Random| node(random, 4, Directions::Axes).record;
         let walls: Vec<Vec<u8>> = (0..count)
             .map(|_| (0..size).flat_map(|_| square(random)).collect())
             .collect();

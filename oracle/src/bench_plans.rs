@@ -62,17 +62,17 @@ impl Node {
     }
 }
 
-/// Square walls lie on the axes, one after the other; any other walls lie anywhere. Each bounds A or B.
-pub(crate) fn node(random: &mut Random, count: usize, square: bool) -> Node {
+/// Square walls lie on the axes, one after the other; others as their directions are chosen. Each bounds A or B.
+pub(crate) fn node(random: &mut Random, count: usize, walls: Directions) -> Node {
     let areas = [random.below(4) as u8, random.below(4) as u8];
     let mut body = vec![2, 2, areas[0], areas[1], count as u8];
     for number in 0..count {
-        let direction = if square {
+        let direction = if let Directions::Axes = walls {
             let (x, y) = AXES[number % 4];
             let length = 1 + random.below(10_000) as i32;
             (x * length, y * length)
         } else {
-            direction(random, Directions::Any)
+            direction(random, walls)
         };
         let sides = random.pick(&[[2, 1, 3], [2, 3, 1]]);
         let mut label = [1, 0, 0, 0, 0, 0, 0];
@@ -92,9 +92,16 @@ pub(crate) fn node(random: &mut Random, count: usize, square: bool) -> Node {
 }
 
 pub(crate) fn measure_all(random: &mut Random) {
-    for (square, walls) in [(true, "square walls"), (false, "any directions")] {
+    for (directions, walls) in [
+        (Directions::Axes, "square walls"),
+        (Directions::Any, "any directions"),
+        (Directions::Mixed, "square and slanted walls mixed"),
+        (Directions::Near, "near-equal directions shuffled"),
+    ] {
         for count in SIZES {
-            let nodes: Vec<_> = (0..INPUTS).map(|_| node(random, count, square)).collect();
+            let nodes: Vec<_> = (0..INPUTS)
+                .map(|_| node(random, count, directions))
+                .collect();
             measure_records(&format!("record of {count} ends, {walls}"), &nodes);
             measure_nodes(&format!("node of {count} ends, {walls}"), &nodes);
             measure_stars(&format!("star of {count} ends, {walls}"), &nodes);

@@ -32,6 +32,7 @@ mod asked_star;
 mod asked_verdict;
 mod bench_floors;
 mod bench_plans;
+mod direction_pieces;
 mod floor_pieces;
 mod listed;
 mod ours;

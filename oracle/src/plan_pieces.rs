@@ -26,13 +26,19 @@ pub enum Directions {
     Any,
     /// The largest parts, and what lies next to them and to 0.
     Extreme,
+    /// Long ones close beside each other: neighbouring fractions, which a rough number of the direction can't tell apart.
+    Near,
+    /// On an axis or anywhere, one as likely as the other.
+    Mixed,
 }
 
-pub const ALL_DIRECTIONS: [Directions; 4] = [
+pub const ALL_DIRECTIONS: [Directions; 6] = [
     Directions::Axes,
     Directions::Small,
     Directions::Any,
     Directions::Extreme,
+    Directions::Near,
+    Directions::Mixed,
 ];
 
 fn any_part(random: &mut Random) -> i32 {
@@ -50,10 +56,20 @@ fn on_an_axis(random: &mut Random) -> (i32, i32) {
     random.pick(&[(part, 0), (0, part)])
 }
 
+/// Within a hundred of one long direction.
+fn beside_one(random: &mut Random) -> (i32, i32) {
+    let x = LARGEST - random.below(100) as i32;
+    let y = LARGEST / 2 - random.below(100) as i32;
+    (x, y)
+}
+
 /// A direction that is admitted.
 pub fn direction(random: &mut Random, directions: Directions) -> (i32, i32) {
     let part = match directions {
         Directions::Axes => return on_an_axis(random),
+        Directions::Near => return beside_one(random),
+        Directions::Mixed if random.below(2) == 0 => return on_an_axis(random),
+        Directions::Mixed => any_part,
         Directions::Small => |random: &mut Random| random.below(11) as i32 - 5,
         Directions::Any => any_part,
         Directions::Extreme => extreme_part,

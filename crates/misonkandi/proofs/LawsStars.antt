@@ -17,16 +17,16 @@ use Rattle.de9im.specs.declared.refusal.Spot.the-variants.{Nowhere}
 use Rattle.de9im.specs.Answers.{checkedPlace}
 use Rattle.de9im.specs.Refused.{placeOf, spotNo}
 use Rattle.de9im.proofs.LawsApart.{impossible}
-use Rattle.star.specs.declared.label.Label.{Label}
-use Rattle.star.specs.declared.«edge_end».EdgeEnd.{EdgeEnd}
+use Rattle.ends.specs.declared.label.Label.{Label}
+use Rattle.ends.specs.declared.«edge_end».EdgeEnd.{EdgeEnd}
 use Rattle.star.specs.declared.«edge_end_bundle_star».Labeled.{Labeled}
 use Rattle.star.specs.Calls.{refusedStar, bundledOf, starAs, starCall, starOf, completedStar}
 use Rattle.star.specs.Completing.{missingLeft, completedOf}
-use Rattle.star.specs.Ends.{firstFault, checkedOf}
-use Rattle.star.specs.Label.{blank, padded}
-use Rattle.star.specs.Star.{joinedOf}
+use Rattle.ends.specs.Ends.{firstFault, checkedOf}
+use Rattle.ends.specs.Label.{blank, padded}
+use Rattle.ends.specs.Star.{joinedOf}
 use Rattle.star.proofs.LawsFew.{joined-few, completed-length}
-use Rattle.star.proofs.LawsLists.{padTo, pad-step, take-more}
+use Rattle.ends.proofs.LawsLists.{padTo, pad-step, take-more}
 use Rattle.plan.specs.EndBytes.{endsCall}
 use Rattle.frame.specs.Read.{readAs}
 use Rattle.plan.proofs.LawsSmall.{readPlace, call-nowhere}

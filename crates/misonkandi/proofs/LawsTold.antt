@@ -19,7 +19,7 @@ use Rattle.de9im.proofs.LawsApart.{impossible}
 use Rattle.de9im.specs.declared.«coordinate_position».CoordPos.{CoordPos}
 use Rattle.de9im.specs.declared.«coordinate_position».CoordPos.the-variants.{Inside, OnBoundary, Outside}
 use Rattle.de9im.specs.Position.{known}
-use Rattle.star.specs.Label.{codeOf}
+use Rattle.ends.specs.Label.{codeOf}
 use Rattle.outline.specs.declared.position.Located.{Located}
 use Rattle.outline.specs.declared.position.Located.the-variants as L
 use Rattle.outline.specs.Answers.{locatedPlace}

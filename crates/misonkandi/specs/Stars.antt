@@ -10,13 +10,13 @@ use Rattle.de9im.specs.declared.answer.Checked.{Checked}
 use Rattle.de9im.specs.declared.answer.Checked.the-variants as C
 use Rattle.de9im.specs.declared.«coordinate_position».Position.{Position}
 use Rattle.de9im.specs.declared.refusal.Refusal.the-variants as R
-use Rattle.star.specs.declared.label.Label.{Label}
-use Rattle.star.specs.declared.«topology_position».Sides.{Sides}
+use Rattle.ends.specs.declared.label.Label.{Label}
+use Rattle.ends.specs.declared.«topology_position».Sides.{Sides}
 use Rattle.star.specs.declared.«edge_end_bundle».Bundled.{Bundled}
 use Rattle.star.specs.declared.«edge_end_bundle».Bundled.the-variants as D
 use Rattle.star.specs.declared.«edge_end_bundle_star».Labeled.{Labeled}
 use Rattle.star.specs.Calls.{bundledOf, refusedStar, starCall}
-use Rattle.star.specs.Label.{codeOf}
+use Rattle.ends.specs.Label.{codeOf}
 use Rattle.plan.specs.EndBytes.{Ends, good, bad, endsCall}
 use Rattle.misonkandi.specs.declared.changes.Pair.{Pair}
 use Rattle.misonkandi.specs.declared.changes.Pair.the-variants as P

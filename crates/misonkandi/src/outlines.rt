@@ -1,10 +1,10 @@
 // A point against an outline over C: the corners cross as one slice of numbers, two a corner.
 use crate::words::refusal_word;
 use de9im::coordinate_position::known_as;
+use ends::topology_position::code;
 use outline::corners::Corner;
 use outline::lent::position_lent;
 use outline::position::Located;
-use star::topology_position::code;
 ghost use mathlib.Core.Path.{_≡_};
 ghost use Prim.Native.Nat.{_<_};
 ghost use Rattle.de9im.specs.Refused.{spotNo};

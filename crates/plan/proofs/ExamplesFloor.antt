@@ -8,7 +8,7 @@ use Rattle.de9im.specs.Text.{nineZeros}
 use Rattle.star.specs.Calls.{completedStar, pouredStar}
 use Rattle.star.specs.Completing.{any, missingLeft, startOf, walkOf, filledOf}
 use Rattle.star.specs.Pouring.{pourNode, pourLabel, pourLabels}
-use Rattle.star.specs.Star.{dirsFrom}
+use Rattle.ends.specs.Star.{dirsFrom}
 use Rattle.plan.specs.EndBytes.{readEnds}
 use Rattle.plan.specs.Floor.{fed, floorOf}
 use Rattle.plan.specs.LabelBytes.{sidesAt, labelAt}

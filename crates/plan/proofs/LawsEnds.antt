@@ -11,11 +11,12 @@ use lib.Seq.{append-snoc, take-append-seam}
 use Rattle.de9im.specs.declared.answer.Checked.the-variants.{Fine}
 use Rattle.de9im.specs.declared.refusal.Refusal.{Refusal}
 use Rattle.de9im.specs.declared.refusal.Refusal.the-variants as R
-use Rattle.star.specs.declared.«edge_end».EdgeEnd.{EdgeEnd}
-use Rattle.star.specs.Ends.{noEnd}
-use Rattle.star.proofs.LawsLists.{pad-step}
+use Rattle.ends.specs.declared.«edge_end».EdgeEnd.{EdgeEnd}
+use Rattle.ends.specs.Ends.{noEnd}
+use Rattle.ends.proofs.LawsLists.{pad-step}
 use Rattle.plan.specs.declared.«end_bytes».EndsRead.{EndsRead}
 use Rattle.plan.specs.EndBytes.{Ends, endAt, readEnds, endsCall, paddedEnds, endsRead, endsCallOf}
+use Rattle.plan.specs.Inner.Gathering.{AllRead}
 use Rattle.frame.specs.Read.{Read, good, bad, readAs, _>>=_}
 use Rattle.frame.proofs.LawsRead.{bad-good, passed}
 
@@ -33,27 +34,28 @@ before-one : (l : List EdgeEnd) (e : EdgeEnd) (r : Ends)
 before-one l e (good m) = ap good (sym (append-snoc l e m))
 before-one l e (bad r) = refl
 
--- the loop: the first i of n ends are read, and they stand in the array, blanks behind them
-pub record ReadTo (s : List ℕ) (at n : ℕ) (ends : List EdgeEnd) (i p : ℕ) : Type 0 where
+-- the loop: the first i of n ends are read, and K holds of them
+pub record ReadTo (K : List EdgeEnd → Type 0) (s : List ℕ) (at n i p : ℕ) : Type 0 where
   pub read : List EdgeEnd
   pub many : length read ≡ i
-  pub kept : ends ≡ paddedEnds read
+  pub kept : K read
   pub rest : readEnds n s at ≡ before read (readEnds (n - i) s p)
 
-pub start : (s : List ℕ) (at n : ℕ) (ends : List EdgeEnd) → ends ≡ replicate 32 noEnd → ReadTo s at n ends 0 at
-start s at n ends k =
+pub start : (K : List EdgeEnd → Type 0) (s : List ℕ) (at n : ℕ) → K [] → ReadTo K s at n 0 at
+start K s at n k =
     let e : n - 0 ≡ n = omega arith in
     record { read = []; many = refl; kept = k; rest = rw e (before-none (readEnds n s at)) }
 
-module _ (s : List ℕ) (at n : ℕ) (ends : List EdgeEnd) (i p : ℕ) (to : ReadTo s at n ends i p) where
-  pub one-read : (e : EdgeEnd) → i < n → n ≤ 32 → endAt s p ≡ good e → ReadTo s at n (set ends i e) (i + 1) (p + 15)
+module _ (K : List EdgeEnd → Type 0) (s : List ℕ) (at n i p : ℕ) (to : ReadTo K s at n i p) where
+  pub one-read : (L : List EdgeEnd → Type 0) (e : EdgeEnd) → i < n → endAt s p ≡ good e
+      → ((es : List EdgeEnd) → length es ≡ i → K es → L (es ++ (e ∷ []))) → ReadTo L s at n (i + 1) (p + 15)
   unfolding readEnds
-  one-read e h k q =
+  one-read L e h q f =
       let g : n - i ≡ suc (n - (i + 1)) = omega arith in
       record {
         read = to .read ++ (e ∷ []);
         many = length-append (to .read) (e ∷ []) ∙ omega (arith, to .many);
-        kept = rw (to .kept) (pad-step noEnd 32 (to .read) e i (to .many) (omega arith));
+        kept = f (to .read) (to .many) (to .kept);
         rest = to .rest ∙ rw (g, q) (before-one (to .read) e (readEnds (n - (i + 1)) s (p + 15)));
       }
 
@@ -63,13 +65,11 @@ module _ (s : List ℕ) (at n : ℕ) (ends : List EdgeEnd) (i p : ℕ) (to : Rea
       let g : n - i ≡ suc (n - (i + 1)) = omega arith in
       to .rest ∙ rw (g, q) refl
 
-  pub all-read : i ≡ n → record { answer = Fine; ends = ends; count = n } ≡ endsRead (readEnds n s at)
+  pub all-read : i ≡ n → AllRead K n s at
   unfolding readEnds
   all-read e =
       let g : n - i ≡ 0 = omega arith in
-      let m : length (to .read) ≡ n = to .many ∙ e in
-      let f : readEnds n s at ≡ good (to .read) = to .rest ∙ rw (g, append-nil (to .read)) refl in
-      rw (f, to .kept) (ap {B = EndsRead} (λ (k : ℕ). record { answer = Fine; ends = paddedEnds (to .read); count = k }) (sym m))
+      record { ends = to .read; read = to .rest ∙ rw (g, append-nil (to .read)) refl; kept = to .kept }
 
 -- as many ends as were asked for
 length-by : (n : ℕ) (x : Read EdgeEnd) (y : Ends) (es : List EdgeEnd) → ((fs : List EdgeEnd) → y ≡ good fs → length fs ≡ n)
@@ -86,6 +86,20 @@ read-length zero s at es q =
     let g : [] ≡ es = cc in
     rw (← g) refl
 read-length (suc n) s at es q = length-by n (endAt s at) (readEnds n s (at + 15)) es (λ fs. read-length n s (at + 15) fs) q
+
+-- into an array: blanks behind the ends
+abbrev pub InArray : List EdgeEnd → List EdgeEnd → Type 0
+InArray ends es = ends ≡ paddedEnds es
+
+pub array-more : (ends : List EdgeEnd) (e : EdgeEnd) (i : ℕ) → i < 32 → (es : List EdgeEnd) → length es ≡ i → InArray ends es
+    → InArray (set ends i e) (es ++ (e ∷ []))
+array-more ends e i h es m k = rw k (pad-step noEnd 32 es e i m h)
+
+pub array-read : (ends : List EdgeEnd) (n : ℕ) (s : List ℕ) (at : ℕ) → AllRead (InArray ends) n s at
+    → record { answer = Fine; ends = ends; count = n } ≡ endsRead (readEnds n s at)
+array-read ends n s at a =
+    let m : length (a .ends) ≡ n = read-length n s at (a .ends) (a .read) in
+    rw (a .read, a .kept) (ap {B = EndsRead} (λ (k : ℕ). record { answer = Fine; ends = paddedEnds (a .ends); count = k }) (sym m))
 
 -- what an array of ends read says of the list
 padded-length : (es : List EdgeEnd) → length es ≤ 32 → length (paddedEnds es) ≡ 32

@@ -21,11 +21,11 @@ use Rattle.de9im.specs.declared.refusal.Refusal.the-variants.{
   MissingLeft,
 }
 use Rattle.de9im.specs.Answers.{answerNo, usedOf}
-use Rattle.star.specs.declared.«edge_end».EdgeEnd.{EdgeEnd}
+use Rattle.ends.specs.declared.«edge_end».EdgeEnd.{EdgeEnd}
 use Rattle.star.specs.declared.pouring.Node.{Node}
 use Rattle.star.specs.Completing.{missingLeft}
-use Rattle.star.specs.Ends.{badDir}
-use Rattle.star.specs.Star.{joinedOf}
+use Rattle.ends.specs.Ends.{badDir}
+use Rattle.ends.specs.Star.{joinedOf}
 use Rattle.plan.specs.EndBytes.{dirAt, endAt, readEnds}
 use Rattle.plan.specs.EndBytes.{Ends as ReadEnds}
 use Rattle.plan.specs.Inner.Reading.{goodThree, bareThree, labelFault, labelRead, goodNode, nodeFault, nodeRead}

@@ -12,13 +12,13 @@ use Rattle.de9im.specs.declared.«coordinate_position».Position.{Position}
 use Rattle.de9im.specs.declared.«coordinate_position».Position.the-variants.{Outside}
 use Rattle.de9im.specs.declared.refusal.Refusal.the-variants.{PositionCode, LabelKind, Direction}
 use Rattle.de9im.specs.Position.{codedOf}
-use Rattle.star.specs.declared.label.Label.{Label}
-use Rattle.star.specs.declared.«edge_end».Dir.{Dir}
-use Rattle.star.specs.declared.«edge_end».EdgeEnd.{EdgeEnd}
+use Rattle.ends.specs.declared.label.Label.{Label}
+use Rattle.ends.specs.declared.«edge_end».Dir.{Dir}
+use Rattle.ends.specs.declared.«edge_end».EdgeEnd.{EdgeEnd}
 use Rattle.star.specs.declared.pouring.Node.{Node}
-use Rattle.star.specs.declared.«topology_position».Sides.{Sides}
-use Rattle.star.specs.Ends.{badDir, lineWithSide}
-use Rattle.star.specs.Label.{isNone, sidesNone}
+use Rattle.ends.specs.declared.«topology_position».Sides.{Sides}
+use Rattle.ends.specs.Ends.{badDir, lineWithSide}
+use Rattle.ends.specs.Label.{isNone, sidesNone}
 use Rattle.plan.specs.EndBytes.{dirAt, endAt}
 use Rattle.plan.specs.Inner.Reading.{
   knownOf,

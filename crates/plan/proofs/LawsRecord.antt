@@ -7,26 +7,29 @@ use borrow.Author.Tests.{le-ltb}
 use lib.Dec.{ltb}
 use lib.ListN.{length, take}
 use Rattle.de9im.specs.declared.answer.Answer.the-variants.{Used}
+use Rattle.de9im.specs.declared.answer.BytesAnswer.{BytesAnswer}
 use Rattle.de9im.specs.declared.answer.CellsAnswer.{CellsAnswer}
 use Rattle.de9im.specs.declared.answer.Checked.the-variants.{Fine, Refused}
 use Rattle.de9im.specs.declared.refusal.Refusal.{Refusal}
 use Rattle.de9im.specs.declared.refusal.Refusal.the-variants.{LabelKind, Direction, MissingLeft}
 use Rattle.de9im.proofs.LawsApart.{fine-refused}
-use Rattle.star.specs.declared.label.Label.{Label}
-use Rattle.star.specs.declared.«edge_end».Dir.{Dir}
-use Rattle.star.specs.declared.«edge_end».EdgeEnd.{EdgeEnd}
+use Rattle.ends.specs.declared.label.Label.{Label}
+use Rattle.ends.specs.declared.«edge_end».Dir.{Dir}
+use Rattle.ends.specs.declared.«edge_end».EdgeEnd.{EdgeEnd}
 use Rattle.star.specs.declared.pouring.Node.{Node}
-use Rattle.star.specs.declared.«topology_position».Sides.{Sides}
+use Rattle.ends.specs.declared.«topology_position».Sides.{Sides}
 use Rattle.star.specs.Calls.{completedStar, pouredStar}
 use Rattle.star.specs.Completing.{missingLeft}
-use Rattle.star.specs.Ends.{badDir, lineWithSide, faultOf, firstFault, checkedOf, Sound}
-use Rattle.star.specs.Star.{joinedOf}
-use Rattle.star.proofs.LawsEnds.{checked-sound}
+use Rattle.ends.specs.Ends.{badDir, lineWithSide, faultOf, firstFault, checkedOf, Sound}
+use Rattle.ends.specs.Star.{joinedOf}
+use Rattle.ends.proofs.LawsEnds.{checked-sound}
 use Rattle.plan.specs.EndBytes.{Ends, dirAt, endAt, readEnds}
 use Rattle.plan.specs.LabelBytes.{labelOf, sidesAt, labelAt}
 use Rattle.frame.specs.Read.{Read, good, bad, _>>=_, noneUsed}
 use Rattle.plan.specs.Record.{pouredBy}
-use Rattle.plan.specs.Said.{withEnds}
+use Rattle.plan.specs.Said.{withEnds, nodeBody}
+use Rattle.plan.specs.Inner.Reading.{nodeFault, nodeRead}
+use Rattle.plan.proofs.LawsReading.{node-reading}
 use Rattle.frame.specs.Words.{byteAt}
 use Rattle.frame.proofs.LawsRead.{bad-good}
 
@@ -114,3 +117,9 @@ module _ (ns : List ℕ) (used : ℕ) (n : Node) (es : List EdgeEnd) (d : CellsA
           → record { answer = noneUsed (d .answer); cells = ns } ≡ pouredBy ns used (withEnds n es)
       go true m = rw (told true m, m) refl
       go false m = fine-refused (sym (told false m) ∙ q)
+
+-- a node whose positions and ends were read is poured as they say
+pub node-poured : (ns : List ℕ) (used : ℕ) (s : List ℕ) (n : ℕ) (es : List EdgeEnd) (x : BytesAnswer) → nodeFault s ≡ Fine → n ≡ byteAt s 8
+    → readEnds n s 9 ≡ good es → x ≡ pouredBy ns used (withEnds (nodeRead s) es) → x ≡ pouredBy ns used (nodeBody s)
+unfolding nodeBody
+node-poured ns used s n es x f e r q = q ∙ rw (node-reading s, f, ← e, r) refl

@@ -11,11 +11,11 @@ use Rattle.de9im.specs.Dimension.{dimNo}
 use Rattle.de9im.specs.Matrix.{cellAt}
 use Rattle.de9im.proofs.LawsForms.{cells-back, matrix-shaped, nine-at}
 use Rattle.de9im.proofs.LawsPatterns.{cells-at}
-use Rattle.star.specs.declared.label.Label.{Label}
+use Rattle.ends.specs.declared.label.Label.{Label}
 use Rattle.star.specs.declared.pouring.Node.{Node}
 use Rattle.star.specs.Completing.{completedOf}
 use Rattle.star.specs.Pouring.{pourNode, pourLabel, pourLabels}
-use Rattle.star.specs.Star.{joinedOf}
+use Rattle.ends.specs.Star.{joinedOf}
 use Rattle.star.proofs.LawsPouring.{raise-cell, raise-shape, label-cell, labels-raise}
 use Rattle.frame.specs.Read.{good}
 use Rattle.plan.specs.Floor.{floorOf}

@@ -13,13 +13,13 @@ use Rattle.de9im.specs.declared.refusal.Refusal.{Refusal}
 use Rattle.de9im.specs.declared.refusal.Refusal.the-variants.{Short, Version, Kind, Length, Ends, MissingLeft}
 use Rattle.de9im.specs.Cells.{cellsOf, matrixOf}
 use Rattle.de9im.proofs.LawsApart.{impossible}
-use Rattle.star.specs.declared.label.Label.{Label}
-use Rattle.star.specs.declared.«edge_end».EdgeEnd.{EdgeEnd}
+use Rattle.ends.specs.declared.label.Label.{Label}
+use Rattle.ends.specs.declared.«edge_end».EdgeEnd.{EdgeEnd}
 use Rattle.star.specs.declared.pouring.Node.{Node}
 use Rattle.star.specs.Calls.{completedStar, pouredStar}
 use Rattle.star.specs.Completing.{missingLeft, completedOf}
 use Rattle.star.specs.Pouring.{pourNode, pourLabels}
-use Rattle.star.specs.Star.{joinedOf}
+use Rattle.ends.specs.Star.{joinedOf}
 use Rattle.plan.specs.EndBytes.{readEnds}
 use Rattle.plan.specs.EndBytes.{Ends as ReadEnds}
 use Rattle.plan.specs.LabelBytes.{labelAt}

@@ -20,9 +20,9 @@ use Rattle.de9im.specs.Answers.{answerPlace, usedOf}
 use Rattle.de9im.specs.Position.{codedOf}
 use Rattle.de9im.specs.Refused.{placeOf}
 use Rattle.star.specs.Completing.{missingLeft}
-use Rattle.star.specs.Ends.{badDir, lineWithSide}
-use Rattle.star.specs.Label.{isNone}
-use Rattle.star.specs.Star.{joinedOf}
+use Rattle.ends.specs.Ends.{badDir, lineWithSide}
+use Rattle.ends.specs.Label.{isNone}
+use Rattle.ends.specs.Star.{joinedOf}
 use Rattle.plan.specs.EndBytes.{dirAt, endAt, readEnds, endsCall}
 use Rattle.plan.specs.LabelBytes.{codeRead, labelOf, sidesAt, labelAt}
 use Rattle.frame.specs.Read.{Read, good, bad, _>>=_}

@@ -14,3 +14,5 @@ pub mod LawsRun
 pub mod ExamplesFloor
 pub mod LawsSmall
 pub mod LawsLong
+pub mod LawsMark
+pub mod LawsGathering

@@ -8,9 +8,9 @@ use lib.ListN.{length, replicate}
 use Rattle.de9im.specs.declared.answer.Checked.{Checked}
 use Rattle.de9im.specs.declared.answer.Checked.the-variants.{Fine, Refused}
 use Rattle.de9im.specs.declared.refusal.Refusal.the-variants as R
-use Rattle.star.specs.declared.«edge_end».Dir.{Dir}
-use Rattle.star.specs.declared.«edge_end».EdgeEnd.{EdgeEnd}
-use Rattle.star.specs.Ends.{badDir, noEnd}
+use Rattle.ends.specs.declared.«edge_end».Dir.{Dir}
+use Rattle.ends.specs.declared.«edge_end».EdgeEnd.{EdgeEnd}
+use Rattle.ends.specs.Ends.{badDir, noEnd}
 use Rattle.plan.specs.declared.«end_bytes».EndsRead.{EndsRead}
 use Rattle.plan.specs.LabelBytes.{labelAt}
 use Rattle.frame.specs.Words.{fourBytesAt, signedOf}

@@ -1,2 +1,3 @@
 -- How the code keeps things: no promise of a public function names these.
 pub mod Reading
+pub mod Gathering

@@ -8,9 +8,9 @@ use Rattle.de9im.specs.declared.«coordinate_position».Coded.the-variants.{Is,
 use Rattle.de9im.specs.declared.«coordinate_position».Position.{Position}
 use Rattle.de9im.specs.declared.refusal.Refusal.the-variants.{PositionCode, LabelKind}
 use Rattle.de9im.specs.Position.{codedOf}
-use Rattle.star.specs.declared.label.Label.{Label}
-use Rattle.star.specs.declared.«topology_position».Sides.{Sides}
-use Rattle.star.specs.Ends.{lineWithSide}
+use Rattle.ends.specs.declared.label.Label.{Label}
+use Rattle.ends.specs.declared.«topology_position».Sides.{Sides}
+use Rattle.ends.specs.Ends.{lineWithSide}
 use Rattle.frame.specs.Read.{Read, good, bad, _refuses_, _>>_, _>>=_}
 use Rattle.frame.specs.Words.{byteAt}
 

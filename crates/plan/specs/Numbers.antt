@@ -7,8 +7,8 @@ use mathlib.Core.Bool.{Bool, false, cond, not, _&&_, _||_}
 use mathlib.Core.List.{List, [], _∷_, _++_}
 use lib.Dec.{eqb, ltb}
 use Rattle.star.specs.Completing.{missingLeft}
-use Rattle.star.specs.Ends.{badDir}
-use Rattle.star.specs.Star.{joinedOf}
+use Rattle.ends.specs.Ends.{badDir}
+use Rattle.ends.specs.Star.{joinedOf}
 use Rattle.plan.specs.EndBytes.{Ends, dirAt, readEnds}
 use Rattle.frame.specs.Read.{good, bad}
 use Rattle.frame.specs.Rules.{Rule, _gives_, firstNo, short}

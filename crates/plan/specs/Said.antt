@@ -8,12 +8,12 @@ use mathlib.Core.List.{List}
 use lib.Dec.{ltb, eqb}
 use lib.ListN.{length}
 use Rattle.de9im.specs.declared.refusal.Refusal.the-variants.{Short, Version, Kind, Length, Ends, PositionCode, MissingLeft}
-use Rattle.star.specs.declared.label.Label.{Label}
-use Rattle.star.specs.declared.«edge_end».EdgeEnd.{EdgeEnd}
+use Rattle.ends.specs.declared.label.Label.{Label}
+use Rattle.ends.specs.declared.«edge_end».EdgeEnd.{EdgeEnd}
 use Rattle.star.specs.declared.pouring.Node.{Node}
 use Rattle.star.specs.Completing.{missingLeft}
-use Rattle.star.specs.Label.{isNone}
-use Rattle.star.specs.Star.{joinedOf}
+use Rattle.ends.specs.Label.{isNone}
+use Rattle.ends.specs.Star.{joinedOf}
 use Rattle.plan.specs.EndBytes.{readEnds}
 use Rattle.plan.specs.LabelBytes.{codeAt, labelAt}
 use Rattle.frame.specs.Read.{Read, good, bad, _refuses_, _>>_, _>>=_}

@@ -5,14 +5,14 @@ use crate::words::four_bytes_at;
 use crate::words::signed_of;
 use de9im::answer::Checked;
 use de9im::refusal::Refusal;
-use star::edge_end::Dir;
-use star::edge_end::EdgeEnd;
-use star::edge_end::bad_dir;
-use star::label::blank;
+use ends::edge_end::Dir;
+use ends::edge_end::EdgeEnd;
+use ends::edge_end::bad_dir;
+use ends::label::blank;
 ghost use mathlib.Core.Path.{_≡_};
 ghost use Prim.Native.Nat.{_+_, _*_, _≤_};
 ghost use lib.ListN.{length};
-ghost use Rattle.star.specs.Ends.{noEnd};
+ghost use Rattle.ends.specs.Ends.{noEnd};
 ghost use Rattle.plan.specs.EndBytes.{dirAt, readEnds, noneRead, endsRead, endsCallOf};
 ghost use Rattle.plan.specs.Inner.Reading.{endFault, endRead};
 
@@ -23,7 +23,7 @@ pub struct EndsRead {
     pub count: usize,
 }
 
-fn dir_at(s: &[u8], at: usize) -> Dir
+pub(crate) fn dir_at(s: &[u8], at: usize) -> Dir
     requires { ⌜ at + 8 ≤ length (now s) ⌝ }
     ensures { λ r. ⌜ r ≡ dirAt (now (s .entry)) at ⌝ }
 {
@@ -34,7 +34,7 @@ fn dir_at(s: &[u8], at: usize) -> Dir
 }
 
 // The first thing that is wrong with an end's bytes: the direction first, then the label.
-fn end_fault(s: &[u8], at: usize) -> Checked
+pub(crate) fn end_fault(s: &[u8], at: usize) -> Checked
     requires { ⌜ at + 15 ≤ length (now s) ⌝ }
     ensures { λ r. ⌜ r ≡ endFault (now (s .entry)) at ⌝ }
 {

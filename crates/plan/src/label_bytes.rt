@@ -1,14 +1,17 @@
 // A label's seven bytes: kind, then on, left, right for A, then for B. Refused in order: kind (7), codes (6), sides (7).
 // What is wrong is asked first, and then the bytes are read as if they were good: no value is built to be thrown away.
+use bundles::marks::digit;
+use bundles::marks::mark;
 use de9im::answer::Checked;
 use de9im::coordinate_position::Position;
 use de9im::refusal::Refusal;
-use star::label::Label;
-use star::topology_position::Sides;
+use ends::label::Label;
+use ends::topology_position::Sides;
 ghost use mathlib.Core.Path.{_≡_};
 ghost use Prim.Native.Nat.{_+_, _≤_};
 ghost use lib.Dec.{ltb};
 ghost use lib.ListN.{length};
+ghost use Rattle.bundles.specs.Marks.{markWord};
 ghost use Rattle.plan.specs.Inner.Reading.{knownOf, goodThree, bareThree, threeRead, labelFault, labelRead};
 
 // The position of a code that is good; a code above 3 never gets here, and would be Outside.
@@ -86,4 +89,15 @@ pub(crate) fn label_fault(s: &[u8], at: usize) -> Checked
     } else {
         Checked::Refused(Refusal::LabelKind)
     }
+}
+
+// What an end with this label adds to its bundle (crate bundles). The label is good: its bytes are codes, and a line has no sides.
+pub(crate) fn mark_at(s: &[u8], at: usize) -> u32
+    requires { ⌜ (at + 7 ≤ length (now s)) × (labelFault (now s) at ≡ Checked.Fine) ⌝ }
+    ensures { λ r. ⌜ r ≡ markWord (labelRead (now (s .entry)) at) ⌝ }
+{
+    let on = digit(s[at + 1], s[at + 4]);
+    let left = digit(s[at + 2], s[at + 5]);
+    let right = digit(s[at + 3], s[at + 6]);
+    mark(0 < s[at], on, left, right)
 }

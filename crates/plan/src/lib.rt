@@ -3,5 +3,6 @@ pub mod end_bytes;
 pub mod floor;
 mod label_bytes;
 mod node_bytes;
+pub mod node_ends;
 pub mod record;
 mod words;

@@ -1,9 +1,9 @@
 // Plan records: kind 1, a node with its ends, and kind 2, an isolated edge, checked in document 01's order and poured.
-use crate::end_bytes::ends_at;
 use crate::label_bytes::label_fault;
 use crate::label_bytes::label_read;
 use crate::node_bytes::node_fault;
 use crate::node_bytes::node_read;
+use crate::node_ends::node_ends;
 use de9im::answer::Answer;
 use de9im::answer::BytesAnswer;
 use de9im::answer::Checked;
@@ -12,14 +12,15 @@ use de9im::refusal::Refusal;
 use frame::handing_on::none_used;
 use frame::words::two_bytes;
 use frame::words::wide;
-use star::edge_end::EdgeEnd;
 use star::pouring::Node;
+use star::pouring::pour_bundles;
 use star::pouring::pour_edge;
-use star::pouring::pour_star;
+ghost use mathlib.Core.List.{List};
 ghost use mathlib.Core.Path.{_≡_};
 ghost use Prim.Native.Nat.{_+_, _*_, _≤_};
 ghost use lib.ListN.{length, take};
-ghost use Rattle.star.specs.Ends.{Sound};
+ghost use Rattle.ends.specs.declared.«edge_end».EdgeEnd.{EdgeEnd};
+ghost use Rattle.bundles.specs.Shown.{Bundles};
 ghost use Rattle.frame.specs.Words.{byteAt, promised};
 ghost use Rattle.plan.specs.Said.{edgeOf, withEnds, nodeBody, nodeOf};
 ghost use Rattle.plan.specs.Record.{refusedAs, pouredBy, recordOf};
@@ -55,18 +56,12 @@ fn edge_record(cells: Cells, s: &[u8], n: usize) -> BytesAnswer
     }
 }
 
-// The star of checked ends, poured over its node; a star without a left is refused last.
-fn pour_node_star(
-    cells: Cells,
-    used: usize,
-    node: Node,
-    ends: [EdgeEnd; 32],
-    n: usize,
-) -> BytesAnswer
-    requires { ⌜ Sound ends n ⌝ }
-    ensures { λ x. ⌜ x ≡ pouredBy cells used (withEnds node (take n ends)) ⌝ }
+// A node's bundles poured over it; a star without a left is refused last.
+fn pour_node(cells: Cells, used: usize, node: Node, out: &[u32], count: usize) -> BytesAnswer
+    requires { ⌜ count ≤ length (now out) ⌝ }
+    ensures { λ x. ⌜ ((es : List EdgeEnd) → Bundles es (take count (now (out .entry))) → x ≡ pouredBy cells used (withEnds node es)) ⌝ }
 {
-    let done = pour_star(cells, node, ends, n);
+    let done = pour_bundles(cells, node, out, count);
     let answer = done.answer;
     let Checked::Fine = answer else {
         return BytesAnswer {
@@ -94,7 +89,8 @@ fn node_body(cells: Cells, s: &[u8], used: usize, n: usize) -> BytesAnswer
             cells,
         };
     };
-    let read = ends_at(s, 9, n);
+    let mut out = [0u32; 32];
+    let read = node_ends(s, 9, n, &mut out);
     let answer = read.answer;
     let Checked::Fine = answer else {
         return BytesAnswer {
@@ -102,9 +98,9 @@ fn node_body(cells: Cells, s: &[u8], used: usize, n: usize) -> BytesAnswer
             cells,
         };
     };
-    let ends = read.ends;
     let node = node_read(s);
-    pour_node_star(cells, used, node, ends, n)
+    let count = read.count;
+    pour_node(cells, used, node, &out, count)
 }
 
 // Kind 1, of n bytes.

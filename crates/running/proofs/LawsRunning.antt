@@ -10,7 +10,7 @@ use Rattle.de9im.specs.declared.refusal.Refusal.{Refusal}
 use Rattle.de9im.specs.Matrix.{Matrix, Shaped, setOf, atLeastOf}
 use Rattle.de9im.proofs.LawsDimension.{dim-back}
 use Rattle.de9im.proofs.LawsForms.{matrix-back, matrix-shaped}
-use Rattle.star.specs.declared.label.Label.{Label}
+use Rattle.ends.specs.declared.label.Label.{Label}
 use Rattle.star.specs.Pouring.{pourLabel}
 use Rattle.star.proofs.LawsPouring.{raise-shape, label-shape}
 use Rattle.de9im.specs.declared.answer.Answer.the-variants.{Refused}

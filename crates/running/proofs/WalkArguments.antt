@@ -9,8 +9,8 @@ use denote.Builtin.{u8}
 use denote.Struct.Declared.{Declared, fields, row, shape}
 use denote.Struct.Struct.{Plains, layout}
 use denote.Struct.Laws as LL
-use Rattle.star.proofs.label.Label as L
-use Rattle.star.proofs.label.Label.Laws as L′
+use Rattle.ends.proofs.label.Label as L
+use Rattle.ends.proofs.label.Label.Laws as L′
 use Rattle.running.proofs.by_value.Change as C
 use Rattle.running.proofs.by_value.Change.Laws as C′
 use Rattle.running.proofs.WalkChange.{Plain, Laws}

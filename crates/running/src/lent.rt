@@ -7,7 +7,7 @@ use crate::by_value::with_record;
 use crate::by_value::with_set;
 use crate::kept::Running;
 use de9im::answer::Answer;
-use star::label::Label;
+use ends::label::Label;
 ghost use mathlib.Core.Path.{_≡_};
 ghost use Rattle.running.specs.Changes.{setIn, atLeastIn, labelIn, recordIn};
 

@@ -6,13 +6,13 @@ use mathlib.Core.List.{List, [], _∷_, _++_, map}
 use lib.ListN.{take, drop, take-append-drop}
 use Rattle.de9im.specs.declared.«coordinate_position».Position.{Position}
 use Rattle.de9im.specs.declared.«coordinate_position».Position.the-variants.{None, Inside, OnBoundary, Outside}
-use Rattle.star.specs.declared.«topology_position».Sides.{Sides}
-use Rattle.star.specs.declared.label.Geometry.{Geometry}
-use Rattle.star.specs.declared.label.Geometry.the-variants.{A, B}
-use Rattle.star.specs.declared.label.Label.{Label}
-use Rattle.star.specs.Label.{halfOf, isNone, orElse}
+use Rattle.ends.specs.declared.«topology_position».Sides.{Sides}
+use Rattle.ends.specs.declared.label.Geometry.{Geometry}
+use Rattle.ends.specs.declared.label.Geometry.the-variants.{A, B}
+use Rattle.ends.specs.declared.label.Label.{Label}
+use Rattle.ends.specs.Label.{halfOf, isNone, orElse}
 use Rattle.star.specs.Completing.{any, collapses, collapsed, restOf, fillSides, fillLabel, walkedOf, filledOf, completedOf}
-use Rattle.star.proofs.LawsOrder.{All, none, more}
+use Rattle.ends.proofs.LawsOrder.{All, none, more}
 
 -- a half in which nothing is missing: its on, and the sides of an area
 pub record Known (area : Bool) (s : Sides) : Type 0 where

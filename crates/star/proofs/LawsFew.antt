@@ -7,18 +7,18 @@ use native.Mathlib.Omega.{arith}
 use lib.ListN.{length, take, replicate, length-map}
 use lib.Seq.{take-at}
 use Rattle.de9im.specs.declared.«coordinate_position».Position.{Position}
-use Rattle.star.specs.declared.«edge_end».Dir.{Dir}
-use Rattle.star.specs.declared.«edge_end».EdgeEnd.{EdgeEnd}
-use Rattle.star.specs.declared.«edge_end».Order.{Order}
-use Rattle.star.specs.declared.«edge_end».Order.the-variants.{Before, Same, After}
-use Rattle.star.specs.declared.label.Label.{Label}
+use Rattle.ends.specs.declared.«edge_end».Dir.{Dir}
+use Rattle.ends.specs.declared.«edge_end».EdgeEnd.{EdgeEnd}
+use Rattle.ends.specs.declared.«edge_end».Order.{Order}
+use Rattle.ends.specs.declared.«edge_end».Order.the-variants.{Before, Same, After}
+use Rattle.ends.specs.declared.label.Label.{Label}
 use Rattle.de9im.specs.declared.answer.Checked.the-variants.{Fine}
 use Rattle.de9im.proofs.LawsApart.{fine-refused}
 use Rattle.de9im.specs.declared.refusal.Refusal.the-variants.{MissingLeft}
-use Rattle.star.specs.Label.{blank}
-use Rattle.star.specs.Direction.{orderOf}
-use Rattle.star.specs.Star.{putBy, insertDir, dirsFrom, dirsOf, bundleAt, bundlesOf, joinedOf}
-use Rattle.star.specs.Bundle.{joinOf}
+use Rattle.ends.specs.Label.{blank}
+use Rattle.ends.specs.Direction.{orderOf}
+use Rattle.ends.specs.Star.{putBy, insertDir, dirsFrom, dirsOf, bundleAt, bundlesOf, joinedOf}
+use Rattle.ends.specs.Bundle.{joinOf}
 use Rattle.star.specs.Completing.{missingLeft, walkedOf, filledOf, completedOf}
 use Rattle.star.specs.Calls.{completedStar, starOf}
 use Rattle.star.proofs.LawsStar.{walked-length}

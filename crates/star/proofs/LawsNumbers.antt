@@ -15,17 +15,17 @@ use Rattle.de9im.specs.declared.refusal.Spot.the-variants.{Nowhere}
 use Rattle.de9im.specs.Answers.{checkedNo, checkedPlace}
 use Rattle.de9im.specs.Refused.{numberOf}
 use Rattle.de9im.proofs.LawsRefused.{numbered}
-use Rattle.star.specs.declared.label.Label.{Label}
-use Rattle.star.specs.declared.«edge_end».EdgeEnd.{EdgeEnd}
+use Rattle.ends.specs.declared.label.Label.{Label}
+use Rattle.ends.specs.declared.«edge_end».EdgeEnd.{EdgeEnd}
 use Rattle.star.specs.declared.«edge_end_bundle_star».Labeled.{Labeled}
 use Rattle.star.specs.declared.pouring.Node.{Node}
 use Rattle.star.specs.Answers.{bundledNo, bundledPlace, labeledNo, labeledPlace, orNo, endNo, endsNo, bundleNo, leftNo, starNo}
-use Rattle.star.specs.Bundle.{joinOf}
+use Rattle.ends.specs.Bundle.{joinOf}
 use Rattle.star.specs.Calls.{bundledAs, bundledOf, refusedStar, completedStar, starOf, starAs, starCall, pouredAs, pouredStar}
 use Rattle.star.specs.Completing.{missingLeft, completedOf}
-use Rattle.star.specs.Ends.{badDir, lineWithSide, faultOf, orFault, firstFault, checkedOf}
-use Rattle.star.specs.Label.{padded}
-use Rattle.star.specs.Star.{joinedOf}
+use Rattle.ends.specs.Ends.{badDir, lineWithSide, faultOf, orFault, firstFault, checkedOf}
+use Rattle.ends.specs.Label.{padded}
+use Rattle.ends.specs.Star.{joinedOf}
 
 -- ---- the numbers
 

@@ -15,8 +15,8 @@ use Rattle.de9im.specs.Dimension.{dimNo, larger}
 use Rattle.de9im.specs.Position.{rowOf}
 use Rattle.de9im.specs.Matrix.{Matrix, Shaped, cellAt, putAt, atLeastOf}
 use Rattle.de9im.proofs.LawsDimension.{larger-max}
-use Rattle.star.specs.declared.label.Label.{Label}
-use Rattle.star.specs.declared.«topology_position».Side.the-variants.{On, Left, Right}
+use Rattle.ends.specs.declared.label.Label.{Label}
+use Rattle.ends.specs.declared.«topology_position».Side.the-variants.{On, Left, Right}
 use Rattle.star.specs.Pouring.{pourSide, pourLabel, pourLabels, into, labelInto, labelsInto}
 
 -- the number in a cell

@@ -3,11 +3,11 @@ use mathlib.Core.Path.{_≡_, ap, _∙_}
 use mathlib.Core.Bool.{_||_}
 use mathlib.Core.List.{List}
 use lib.ListN.{length}
-use Rattle.star.specs.declared.label.Label.{Label}
-use Rattle.star.specs.declared.look.Looked.{Looked}
+use Rattle.ends.specs.declared.label.Label.{Label}
+use Rattle.star.specs.Inner.Walking.{Looked}
 use Rattle.star.specs.Completing.{walkedOf, missingLeft}
 use Rattle.star.specs.Inner.Walking.{foundOf, lookedOf, foundMissing}
-use Rattle.star.proofs.LawsLists.{scan-length}
+use Rattle.star.proofs.LawsScan.{scan-length}
 use Rattle.star.proofs.LawsWalk.{walkLabel, nextLabel, walked-both, missing-looked}
 
 pub walked-length : (xs : List Label) → length (walkedOf xs) ≡ length xs

@@ -11,15 +11,15 @@ use Rattle.de9im.specs.declared.refusal.Spot.{Spot}
 use Rattle.de9im.specs.declared.refusal.Spot.the-variants.{Nowhere}
 use Rattle.de9im.specs.Answers.{checkedNo, checkedPlace}
 use Rattle.de9im.specs.Refused.{numberOf, placeOf}
-use Rattle.star.specs.declared.label.Label.{Label}
-use Rattle.star.specs.declared.«edge_end».EdgeEnd.{EdgeEnd}
+use Rattle.ends.specs.declared.label.Label.{Label}
+use Rattle.ends.specs.declared.«edge_end».EdgeEnd.{EdgeEnd}
 use Rattle.star.specs.declared.«edge_end_bundle».Bundled.{Bundled}
 use Rattle.star.specs.declared.«edge_end_bundle».Bundled.the-variants.{Joined, Refused}
 use Rattle.star.specs.declared.«edge_end_bundle_star».Labeled.{Labeled}
 use Rattle.star.specs.Completing.{missingLeft}
-use Rattle.star.specs.Ends.{badDir, lineWithSide}
-use Rattle.star.specs.Label.{blank}
-use Rattle.star.specs.Star.{joinedOf}
+use Rattle.ends.specs.Ends.{badDir, lineWithSide}
+use Rattle.ends.specs.Label.{blank}
+use Rattle.ends.specs.Star.{joinedOf}
 
 abbrev pub bundledNo : Bundled → ℕ
 bundledNo (Joined l) = 0

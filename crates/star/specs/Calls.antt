@@ -8,8 +8,8 @@ use lib.ListN.{length, take}
 use Rattle.de9im.specs.declared.«coordinate_position».Position.{Position}
 use Rattle.de9im.specs.declared.refusal.Refusal.{Refusal}
 use Rattle.de9im.specs.declared.refusal.Refusal.the-variants.{MissingLeft}
-use Rattle.star.specs.declared.label.Label.{Label}
-use Rattle.star.specs.declared.«edge_end».EdgeEnd.{EdgeEnd}
+use Rattle.ends.specs.declared.label.Label.{Label}
+use Rattle.ends.specs.declared.«edge_end».EdgeEnd.{EdgeEnd}
 use Rattle.de9im.specs.declared.answer.Checked.{Checked}
 use Rattle.de9im.specs.declared.answer.Checked.the-variants as C
 use Rattle.star.specs.declared.«edge_end_bundle».Bundled.{Bundled}
@@ -19,11 +19,11 @@ use Rattle.star.specs.declared.pouring.Node.{Node}
 use Rattle.de9im.specs.declared.answer.CellsAnswer.{CellsAnswer}
 use Rattle.de9im.specs.Cells.{cellsOf, matrixOf}
 use Rattle.star.specs.Pouring.{pourNode, pourLabels}
-use Rattle.star.specs.Bundle.{joinOf}
+use Rattle.ends.specs.Bundle.{joinOf}
 use Rattle.star.specs.Completing.{missingLeft, completedOf}
-use Rattle.star.specs.Ends.{checkedOf}
-use Rattle.star.specs.Label.{padded}
-use Rattle.star.specs.Star.{joinedOf}
+use Rattle.ends.specs.Ends.{checkedOf}
+use Rattle.ends.specs.Label.{padded}
+use Rattle.ends.specs.Star.{joinedOf}
 
 abbrev pub bundledAs : Checked → Label → Bundled
 bundledAs C.Fine l = D.Joined l

@@ -11,11 +11,11 @@ use mathlib.Core.Bool.{Bool, false, cond, not, _&&_, _||_}
 use mathlib.Core.List.{List, [], _∷_, map}
 use Rattle.de9im.specs.declared.«coordinate_position».Position.{Position}
 use Rattle.de9im.specs.declared.«coordinate_position».Position.the-variants.{None, OnBoundary, Outside}
-use Rattle.star.specs.declared.«topology_position».Sides.{Sides}
-use Rattle.star.specs.declared.label.Geometry.{Geometry}
-use Rattle.star.specs.declared.label.Geometry.the-variants.{A, B}
-use Rattle.star.specs.declared.label.Label.{Label}
-use Rattle.star.specs.Label.{halfOf, isNone, isPos, orElse}
+use Rattle.ends.specs.declared.«topology_position».Sides.{Sides}
+use Rattle.ends.specs.declared.label.Geometry.{Geometry}
+use Rattle.ends.specs.declared.label.Geometry.the-variants.{A, B}
+use Rattle.ends.specs.declared.label.Label.{Label}
+use Rattle.ends.specs.Label.{halfOf, isNone, isPos, orElse}
 
 -- the left of an area bundle
 abbrev pub areaLeft : Geometry → Label → Position

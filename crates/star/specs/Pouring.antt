@@ -10,10 +10,10 @@ use Rattle.de9im.specs.declared.dimensions.Dimensions.{Dimensions}
 use Rattle.de9im.specs.declared.dimensions.Dimensions.the-variants.{ZeroDimensional, OneDimensional, TwoDimensional}
 use Rattle.de9im.specs.declared.«coordinate_position».Position.{Position}
 use Rattle.de9im.specs.Matrix.{Matrix, atLeastOf}
-use Rattle.star.specs.declared.«topology_position».Side.{Side}
-use Rattle.star.specs.declared.«topology_position».Side.the-variants.{On, Left, Right}
-use Rattle.star.specs.declared.label.Label.{Label}
-use Rattle.star.specs.Label.{sideOf}
+use Rattle.ends.specs.declared.«topology_position».Side.{Side}
+use Rattle.ends.specs.declared.«topology_position».Side.the-variants.{On, Left, Right}
+use Rattle.ends.specs.declared.label.Label.{Label}
+use Rattle.ends.specs.Label.{sideOf}
 
 unfoldable pub pourNode : Matrix → Position → Position → Matrix
 pourNode m a b = atLeastOf m a b ZeroDimensional

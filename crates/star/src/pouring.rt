@@ -1,20 +1,13 @@
 // Pouring: what a node and what the labels around it raise in the matrix. A none skips its cell.
-use crate::edge_end::EdgeEnd;
-use crate::edge_end_bundle_star::Current;
-use crate::edge_end_bundle_star::complete_label;
-use crate::edge_end_bundle_star::next_label;
-use crate::edge_end_bundle_star::starts;
-use crate::gather::bundle_label;
-use crate::gather::gather;
-use crate::grid::cells_of;
-use crate::grid::grid_of;
-use crate::grid::pour_into;
-use crate::grid::raise;
-use crate::label::Label;
-use crate::look::look;
-use crate::look::missing;
-use crate::topology_position::Side;
-use crate::topology_position::position;
+use crate::places::label_places;
+use crate::raised::Raised;
+use crate::raised::node_raised;
+use crate::raised::pour;
+use crate::raised::raise;
+use crate::start;
+use crate::start::start_place;
+use crate::walk::Walked;
+use crate::walk::walk;
 use de9im::answer::CellsAnswer;
 use de9im::answer::Checked;
 use de9im::cells::Cells;
@@ -23,15 +16,18 @@ use de9im::dimensions::Dimensions;
 use de9im::intersection_matrix::IntersectionMatrix;
 use de9im::intersection_matrix::set_at_least_if_in_both;
 use de9im::refusal::Refusal;
+use ends::label::Label;
+use ends::topology_position::Side;
+use ends::topology_position::position;
 ghost use mathlib.Core.Path.{_≡_};
-ghost use lib.ListN.{take};
+ghost use mathlib.Core.List.{List};
+ghost use Prim.Native.Nat.{_≤_};
+ghost use lib.ListN.{length, take};
 ghost use Rattle.de9im.specs.Cells.{cellsOf, matrixOf};
+ghost use Rattle.ends.specs.declared.«edge_end».EdgeEnd.{EdgeEnd};
+ghost use Rattle.bundles.specs.Shown.{Bundles};
 ghost use Rattle.star.specs.Calls.{pouredStar};
-ghost use Rattle.star.specs.Ends.{Sound};
-ghost use Rattle.star.specs.Inner.Gather.{placedLabels, Placed};
-ghost use Rattle.star.specs.Inner.Grid.{pourGrid};
 ghost use Rattle.star.specs.Pouring.{pourNode, pourSide, pourLabel};
-ghost use Rattle.star.specs.Inner.Walking.{completeWalk};
 
 // A node raises (on A, on B) to 0.
 pub fn pour_node(m: IntersectionMatrix, a: Position, b: Position) -> IntersectionMatrix
@@ -64,9 +60,12 @@ pub fn pour_label(m: IntersectionMatrix, l: Label) -> IntersectionMatrix
 pub fn pour_edge(cells: Cells, l: Label) -> Cells
     ensures { λ r. ⌜ r ≡ cellsOf (pourLabel (matrixOf cells) l) ⌝ }
 {
-    let mut g = grid_of(cells);
-    pour_into(&mut g, l);
-    cells_of(g)
+    let none = Raised {
+        points: 0,
+        lines: 0,
+        areas: 0,
+    };
+    pour(cells, raise(none, label_places(l)))
 }
 
 // A node: where it lies on each geometry, and in each area, none for a geometry that is no area.
@@ -77,57 +76,28 @@ pub struct Node {
     pub area_b: Position,
 }
 
-// Completes n bundles in one walk, and pours each as soon as it is complete.
-fn pour_walk(
-    g: &mut [u8; 16],
-    order: &[usize; 32],
-    areas: &[u64; 32],
-    a: &[u64; 32],
-    b: &[u64; 32],
-    n: usize,
-    start: Current,
-)
-    requires { ⌜ Placed (now order) n ⌝ }
-    ensures { λ r. ⌜ now (g .exit) ≡ pourGrid (now (g .entry))
-        (completeWalk start (placedLabels (now (order .entry)) (now (areas .entry)) (now (a .entry)) (now (b .entry)) n)) ⌝ }
+// A node and its bundles, as words in order, poured straight into a matrix. A refusal hands the numbers back as they came.
+pub fn pour_bundles(cells: Cells, node: Node, out: &[u32], count: usize) -> CellsAnswer
+    requires { ⌜ count ≤ length (now out) ⌝ }
+    ensures { λ r. ⌜ ((es : List EdgeEnd) → Bundles es (take count (now (out .entry))) → r ≡ pouredStar cells node es) ⌝ }
 {
-    let mut c = start;
-    let mut i: usize = 0;
-    while i < n {
-        let l = bundle_label(order, areas, a, b, i);
-        pour_into(g, complete_label(c, l));
-        c = next_label(c, l);
-        i += 1;
-    }
-}
-
-// A node and its star, for ends that are checked, poured straight into a matrix. A refusal hands the numbers back as they came.
-pub fn pour_star(cells: Cells, node: Node, ends: [EdgeEnd; 32], n: usize) -> CellsAnswer
-    requires { ⌜ Sound ends n ⌝ }
-    ensures { λ r. ⌜ r ≡ pouredStar cells node (take n ends) ⌝ }
-{
-    let mut order = [0usize; 32];
-    let mut areas = [0u64; 32];
-    let mut a = [0u64; 32];
-    let mut b = [0u64; 32];
-    let count = gather(ends, n, &mut order, &mut areas, &mut a, &mut b);
-    let looked = look(&order, &areas, &a, &b, count);
-    if missing(looked) {
+    let starts = start::look(out, count);
+    if start::missing(starts) {
         return CellsAnswer {
             answer: Checked::Refused(Refusal::MissingLeft),
             cells,
         };
     }
-    let pa = node.area_a;
-    let pb = node.area_b;
-    let start = starts(looked, pa, pb);
+    let area_a = node.area_a;
+    let area_b = node.area_b;
+    let cur = start_place(starts, area_a, area_b);
     let on_a = node.on_a;
     let on_b = node.on_b;
-    let mut g = grid_of(cells);
-    raise(&mut g, on_a, on_b, 1);
-    pour_walk(&mut g, &order, &areas, &a, &b, count, start);
+    let raised = node_raised(on_a, on_b);
+    let w = walk(out, count, Walked { cur, raised });
+    let all = w.raised;
     CellsAnswer {
         answer: Checked::Fine,
-        cells: cells_of(g),
+        cells: pour(cells, all),
     }
 }

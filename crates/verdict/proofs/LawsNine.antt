@@ -21,7 +21,7 @@ use Rattle.de9im.specs.Text.{nineZeros}
 use Rattle.de9im.proofs.LawsForms.{matrix-shaped, nine-cases}
 use Rattle.de9im.proofs.LawsMatches.{yes-each}
 use Rattle.de9im.proofs.LawsPatterns.{cells-at}
-use Rattle.star.specs.declared.label.Label.{Label}
+use Rattle.ends.specs.declared.label.Label.{Label}
 use Rattle.star.specs.Pouring.{pourNode, pourLabel, pourLabels, into, labelInto, labelsInto}
 use Rattle.star.proofs.LawsPouring.{raise-cell, raise-shape, label-cell, labels-cell}
 use Rattle.star.specs.declared.pouring.Node.{Node}

@@ -21,9 +21,9 @@ use Rattle.de9im.proofs.LawsForms.{matrix-shaped}
 use Rattle.de9im.proofs.LawsPatterns.{cells-at}
 use Rattle.star.specs.Calls.{completedStar, pouredStar}
 use Rattle.star.specs.Completing.{any, missingLeft, startOf, walkOf, filledOf}
-use Rattle.star.specs.Label.{isNone}
+use Rattle.ends.specs.Label.{isNone}
 use Rattle.star.specs.Pouring.{pourNode, pourLabel, pourLabels, into}
-use Rattle.star.specs.Star.{dirsFrom}
+use Rattle.ends.specs.Star.{dirsFrom}
 use Rattle.star.proofs.LawsPouring.{raise-cell}
 use Rattle.plan.specs.EndBytes.{readEnds}
 use Rattle.plan.specs.LabelBytes.{sidesAt, labelAt}

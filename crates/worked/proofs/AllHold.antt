@@ -9,13 +9,13 @@ use Rattle.de9im.specs.Letters.{letterOf}
 use Rattle.de9im.specs.Patterns.{checkOf, matchesOf, agreeAll}
 use Rattle.predicates.specs.Predicates.{holds}
 use Rattle.de9im.specs.Text.{cellLetterOf, firstBad}
-use Rattle.star.specs.Bundle.{count, onJoined, sideJoined, halfJoined, joinOf}
+use Rattle.ends.specs.Bundle.{count, onJoined, sideJoined, halfJoined, joinOf}
 use Rattle.star.specs.Calls.{bundledOf, completedStar, pouredStar}
 use Rattle.star.specs.Completing.{startOf, walkFrom, walkOf, any, missingLeft, filledOf}
-use Rattle.star.specs.Direction.{orderOf}
-use Rattle.star.specs.Ends.{firstFault, checkedOf}
+use Rattle.ends.specs.Direction.{orderOf}
+use Rattle.ends.specs.Ends.{firstFault, checkedOf}
 use Rattle.star.specs.Pouring.{pourNode, pourLabel, pourLabels}
-use Rattle.star.specs.Star.{insertDir, dirsFrom, keep}
+use Rattle.ends.specs.Star.{insertDir, dirsFrom, keep}
 use Rattle.plan.specs.EndBytes.{dirAt, endAt, readEnds}
 use Rattle.plan.specs.LabelBytes.{sidesAt, labelAt}
 use Rattle.plan.specs.Record.{recordOf}

@@ -14,11 +14,11 @@ use Rattle.de9im.specs.Cells.{matrixOf}
 use Rattle.de9im.specs.Patterns.{matchesOf}
 use Rattle.predicates.specs.Predicates.{holds}
 use Rattle.de9im.specs.Text.{numbersOf}
-use Rattle.star.specs.declared.label.Label.{Label}
-use Rattle.star.specs.declared.«edge_end».EdgeEnd.{EdgeEnd}
+use Rattle.ends.specs.declared.label.Label.{Label}
+use Rattle.ends.specs.declared.«edge_end».EdgeEnd.{EdgeEnd}
 use Rattle.star.specs.declared.«edge_end_bundle».Bundled.the-variants.{Joined}
 use Rattle.star.specs.Calls.{bundledOf}
-use Rattle.star.specs.Ends.{noEnd}
+use Rattle.ends.specs.Ends.{noEnd}
 use Rattle.de9im.specs.declared.answer.Answer.{Answer}
 use Rattle.de9im.specs.declared.answer.Answer.the-variants.{Used, Refused}
 use Rattle.plan.specs.Record.{recordOf}

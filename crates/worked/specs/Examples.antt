@@ -11,8 +11,8 @@ use Rattle.de9im.specs.declared.patterns.Matched.the-variants.{Refused}
 use Rattle.predicates.specs.declared.predicate.Predicate.the-variants.{EqualTopo, Crosses, Overlaps}
 use Rattle.de9im.specs.declared.refusal.Refusal.the-variants.{BadByte, Ends, NoRoom}
 use Rattle.de9im.specs.Bytes.{bytes}
-use Rattle.star.specs.declared.label.Label.{Label}
-use Rattle.star.specs.declared.«edge_end».EdgeEnd.{EdgeEnd}
+use Rattle.ends.specs.declared.label.Label.{Label}
+use Rattle.ends.specs.declared.«edge_end».EdgeEnd.{EdgeEnd}
 use Rattle.place.specs.declared.places.Corner.{Corner}
 use Rattle.place.specs.declared.places.Place.{Place}
 use Rattle.place.specs.declared.places.Place.the-variants.{Box}

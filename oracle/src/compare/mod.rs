@@ -1,6 +1,7 @@
 //! The comparison: the same calls to the crate and to the library, and document 01's rules beside them.
 
 mod changes;
+mod directions;
 mod floors;
 mod matches;
 mod outlines;
@@ -125,6 +126,7 @@ pub fn main() -> i32 {
     wkt::compare(&mut run);
     wkt_written::compare(&mut run);
     floors::compare(&mut run);
+    directions::compare(&mut run);
     run.answer_waiting();
     run.tally.report()
 }

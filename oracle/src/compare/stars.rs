@@ -7,7 +7,7 @@ use crate::plan_pieces::{
 };
 use crate::rule_star::END_BYTES;
 
-const START: [u8; 9] = [0, 0, 0, 0, 0, 0, 0, 0, 3];
+pub(super) const START: [u8; 9] = [0, 0, 0, 0, 0, 0, 0, 0, 3];
 /// Area codes above 3; some are 0 to 3 in their low byte or low half.
 const BAD_AREAS: [u32; 7] = [4, 5, 255, 256, 258, 65_539, u32::MAX];
 
@@ -53,7 +53,7 @@ pub fn compare_turned(run: &mut Run) {
 }
 
 /// A star and its record on the start matrix, at each quarter turn.
-fn ask_turned(run: &mut Run, mut ends: Vec<u8>, areas: [u8; 2]) {
+pub(super) fn ask_turned(run: &mut Run, mut ends: Vec<u8>, areas: [u8; 2]) {
     let [a, b] = areas;
     let node = [0, 1].map(|_| 1 + run.random.below(3) as u8);
     for _ in 0..4 {
@@ -65,7 +65,7 @@ fn ask_turned(run: &mut Run, mut ends: Vec<u8>, areas: [u8; 2]) {
     }
 }
 
-fn area(run: &mut Run) -> u32 {
+pub(super) fn area(run: &mut Run) -> u32 {
     run.random.below(4) as u32
 }
 

@@ -9,11 +9,11 @@ use Rattle.de9im.specs.declared.answer.Checked.the-variants.{Fine, Refused}
 use Rattle.de9im.specs.declared.«coordinate_position».Position.{Position}
 use Rattle.de9im.specs.declared.«coordinate_position».Position.the-variants.{None, Inside, OnBoundary, Outside}
 use Rattle.de9im.specs.declared.refusal.Refusal.the-variants.{PositionCode, LabelKind, Direction}
-use Rattle.star.specs.declared.label.Label.{Label}
-use Rattle.star.specs.declared.«edge_end».EdgeEnd.{EdgeEnd}
+use Rattle.ends.specs.declared.label.Label.{Label}
+use Rattle.ends.specs.declared.«edge_end».EdgeEnd.{EdgeEnd}
 use Rattle.star.specs.declared.pouring.Node.{Node}
-use Rattle.star.specs.declared.«topology_position».Sides.{Sides}
-use Rattle.star.specs.Ends.{badDir}
+use Rattle.ends.specs.declared.«topology_position».Sides.{Sides}
+use Rattle.ends.specs.Ends.{badDir}
 use Rattle.plan.specs.EndBytes.{dirAt}
 use Rattle.frame.specs.Words.{byteAt}
 

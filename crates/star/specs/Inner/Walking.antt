@@ -4,18 +4,31 @@ use mathlib.Core.Bool.{Bool, cond, not, _&&_, _||_}
 use mathlib.Core.List.{List, [], _∷_}
 use Rattle.de9im.specs.declared.«coordinate_position».Position.{Position}
 use Rattle.de9im.specs.declared.«coordinate_position».Position.the-variants.{None, OnBoundary}
-use Rattle.star.specs.declared.«topology_position».Sides.{Sides}
-use Rattle.star.specs.declared.label.Geometry.{Geometry}
-use Rattle.star.specs.declared.label.Geometry.the-variants.{A, B}
-use Rattle.star.specs.declared.label.Label.{Label}
-use Rattle.star.specs.declared.«edge_end_bundle_star».Current.{Current}
-use Rattle.star.specs.declared.look.Found.{Found}
-use Rattle.star.specs.declared.look.Looked.{Looked}
-use Rattle.star.specs.Label.{isNone, isPos, orElse}
+use Rattle.ends.specs.declared.«topology_position».Sides.{Sides}
+use Rattle.ends.specs.declared.label.Geometry.{Geometry}
+use Rattle.ends.specs.declared.label.Geometry.the-variants.{A, B}
+use Rattle.ends.specs.declared.label.Label.{Label}
+use Rattle.ends.specs.Label.{isNone, isPos, orElse}
 use Rattle.star.specs.Completing.{startOf, rightAlone, any, collapsed, restOf}
 
+-- what is current in the walk, for each geometry
+pub record Current : Type 0 where
+  pub a : Position
+  pub b : Position
+
+-- what a look over the labels finds for one geometry: where its walk starts, whether some right has no left beside it, and whether some
+-- line bundle is on its boundary; and for both
+pub record Found : Type 0 where
+  pub start : Position
+  pub alone : Bool
+  pub collapsed : Bool
+
+pub record Looked : Type 0 where
+  pub a : Found
+  pub b : Found
+
 -- a list changed by a walk with a state
-unfoldable pub scan : {S X : Type 0} → (S → X → X) → (S → X → S) → S → List X → List X
+unfoldable pub scan : {S X Y : Type 0} → (S → X → Y) → (S → X → S) → S → List X → List Y
 scan f h s [] = []
 scan f h s (x ∷ xs) = f s x ∷ scan f h (h s x) xs
 

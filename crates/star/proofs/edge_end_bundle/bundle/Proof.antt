@@ -3,7 +3,7 @@ use borrow.Author.Needs.{needs}
 use mathlib.Core.Path.{_≡_, refl, sym, _∙_}
 use lib.ListN.{length}
 use Rattle.star.specs.Calls.{bundledOf}
-use Rattle.star.proofs.LawsEnds.{checked-sound}
+use Rattle.ends.proofs.LawsEnds.{checked-sound}
 use Rattle.star.proofs.edge_end_bundle.bundle.Statement.{statement}
 use Rattle.star.proofs.edge_end_bundle.bundle.Tie as tie
 
@@ -13,15 +13,15 @@ returns c =
     let told = c .before .before .enum-told2 .given .1 in
     c .bundled-as .ensures ∙ rw (told, sym (c .before .before .before .before .check .ensures) ∙ told) refl
 
-join-requires : tie.Need-join-requires
-join-requires c κs =
+join-ends-requires : tie.Need-join-ends-requires
+join-ends-requires c κs =
     let s = c .before .before .before .args in
     let len : length (s .ends) ≡ 32 = search needs in
     checked-sound (s .ends) (s .count) len (sym (c .before .before .check .ensures) ∙ c .enum-told .given .1) .few
 
 returns-2 : tie.Need-returns-2
 unfolding bundledOf
-returns-2 c = rw (c .join .ensures, sym (c .before .before .before .check .ensures) ∙ c .before .enum-told .given .1) refl
+returns-2 c = rw (c .join-ends .ensures, sym (c .before .before .before .check .ensures) ∙ c .before .enum-told .given .1) refl
 
 pub bundle-spec : {M : Type 1} → statement M
 bundle-spec =
@@ -33,5 +33,5 @@ bundle-spec =
     (λ c κs. search needs)
     (λ c κs. search needs)
     returns
-    join-requires
+    join-ends-requires
     returns-2)

@@ -3,7 +3,7 @@ use borrow.Author.Needs.{needs}
 use mathlib.Core.Path.{_≡_, refl, sym, _∙_}
 use lib.ListN.{length}
 use Rattle.star.specs.Calls.{starCall}
-use Rattle.star.proofs.LawsEnds.{checked-sound}
+use Rattle.ends.proofs.LawsEnds.{checked-sound}
 use Rattle.star.proofs.edge_end_bundle_star.star.Statement.{statement}
 use Rattle.star.proofs.edge_end_bundle_star.star.Tie as tie
 

@@ -1,70 +1,82 @@
--- What was gathered is the joined star, the look tells 9, and the one walk completes as document 01 does.
+-- The columns hold the ends, so their bundles are the star's.
 use borrow.Author.Needs.{needs}
 use native.Mathlib.Omega.{arith}
-use Prim.Native.Nat.{_<_}
-use mathlib.Core.Path.{_≡_, refl, sym, ap, _∙_}
-use mathlib.Core.Bool.{true, false}
-use lib.ListN.{length, take, length-take}
-use Rattle.star.specs.Calls.{completedStar}
-use Rattle.star.specs.Completing.{missingLeft}
-use Rattle.star.specs.Star.{joinedOf}
-use Rattle.star.specs.Inner.Walking.{lookedOf}
-use Rattle.star.proofs.LawsComplete.{completed-walk}
-use Rattle.star.proofs.LawsFew.{completed-length}
-use Rattle.star.proofs.LawsGather.{gathered-labels, gathered-count}
-use Rattle.star.proofs.LawsStar.{looked-missing}
+use mathlib.Core.Path.{_≡_, sym, _∙_}
+use lib.ListN.{length, take}
+use lib.Seq.{length-take-le}
+use Rattle.ends.proofs.LawsEnds.{sound-good}
+use Rattle.bundles.proofs.LawsColumns.{columns-cut, columns-lent}
 use Rattle.star.proofs.edge_end_bundle_star.star_of.Statement.{statement}
 use Rattle.star.proofs.edge_end_bundle_star.star_of.Tie as tie
 
-returns : tie.Need-returns
-unfolding completedStar
-returns c =
-    let g = c .before .before .before .before .before .before .before .before in
-    let s = g .before .before .before .before .before in
-    let v = c .before .before .before .look in
-    let es = take (s .args .n) (s .args .ends) in
-    let small : length es < 1024 = omega (arith, s .pre .few, length-take (s .args .n) (s .args .ends)) in
-    let labels = gathered-labels es small (g .gather .result) _ _ _ _ (g .gather .ensures) in
-    let e : v .result ≡ lookedOf (joinedOf es) = v .ensures ∙ ap lookedOf labels in
-    let m : missingLeft (joinedOf es) ≡ true = sym (looked-missing (joinedOf es) (v .result) e) ∙
-    sym (c .before .before .missing .ensures) ∙ c .before .if1 .taken in
-    c .unlabeled .ensures ∙ rw m refl
+slice-aggregate-bundles-4 : tie.Need-slice-aggregate-bundles-4
+slice-aggregate-bundles-4 c =
+    let s = c .before .before .before .before .before .before .before .before .before .before .before .before .before in
+    let p = c .before .before .before .before .before .before .before .before .put-ends in
+    sym (length-take-le (s .args .n) (p .last .1 .1 .1 .1 .1 .0) (search needs))
 
-returns-2 : tie.Need-returns-2
-unfolding completedStar
-returns-2 c =
-    let g = c .before .before .before .before .before .before .before .before .before .before .before .before .before in
-    let s = g .before .before .before .before .before in
-    let v = c .before .before .before .before .before .before .before .before .look in
-    let es = take (s .args .n) (s .args .ends) in
-    let small : length es < 1024 = omega (arith, s .pre .few, length-take (s .args .n) (s .args .ends)) in
-    let labels = gathered-labels es small (g .gather .result) _ _ _ _ (g .gather .ensures) in
-    let count = gathered-count es small (g .gather .result) _ _ _ _ (g .gather .ensures) in
-    let e : v .result ≡ lookedOf (joinedOf es) = v .ensures ∙ ap lookedOf labels in
-    let m : missingLeft (joinedOf es) ≡ false = sym (looked-missing (joinedOf es) (v .result) e) ∙
-    sym (c .before .before .before .before .before .before .before .missing .ensures) ∙
-    c .before .before .before .before .before .before .if1 .left in
-    let done = completed-walk (s .args .area-a) (s .args .area-b) (joinedOf es) m in
-    rw (
-      m,
-      c .complete .ensures,
-      labels,
-      c .before .before .before .before .before .starts .ensures,
-      e,
-      ← done,
-      completed-length (s .args .area-a) (s .args .area-b) (joinedOf es),
-      count,
-    ) refl
+slice-aggregate-bundles-5 : tie.Need-slice-aggregate-bundles-5
+slice-aggregate-bundles-5 c =
+    let s = c .before .before .before .before .before .before .before .before .before .before .before .before .before .before in
+    sym (length-take-le (s .args .n) _ (s .pre .few))
+
+bundles-requires : tie.Need-bundles-requires
+bundles-requires c κs =
+    let s = c .before .before .before .before .before .before .before .before .before .before .before .before .before .before .before in
+    let p = c .before .before .before .before .before .before .before .before .before .before .put-ends in
+    let n = s .args .n in
+    let ends = s .args .ends in
+    let long : length ends ≡ 32 = search needs in
+    let size : length (take n ends) ≡ n = length-take-le n ends (omega (arith, s .pre .few)) in
+    let words : length (take n (p .last .1 .1 .1 .1 .1 .0)) ≡ n = length-take-le n (p .last .1 .1 .1 .1 .1 .0) (search needs) in
+    columns-lent (take n ends) _ _ _ _ (columns-cut (take n ends) n size (p .ensures)) (size ∙ sym words)
+    (omega (arith, s .pre .few)) (sound-good ends n long (s .pre)) _ _ (length-take-le n _ (s .pre .few) ∙
+    sym words) (omega (arith, s .pre .few))
+
+label-bundles-requires : tie.Need-label-bundles-requires
+label-bundles-requires c κs =
+    let s = c .before .before .before .before .before .before .before .before .before .before .before .before .before .before
+    .before .before .before .before .before .before in
+    let k = c .before .before .before .before .bundles in
+    let p = c .before .before .before .before .before .before .before .before .before .before .before .before .before .before
+    .before .put-ends in
+    let words : length (take (s .args .n) (p .last .1 .1 .1 .1 .1 .0)) ≡ s .args .n =
+    length-take-le (s .args .n) (p .last .1 .1 .1 .1 .1 .0) (search needs) in
+    (omega (arith, k .ensures .few, words, s .pre .few), search needs)
+
+returns : tie.Need-returns
+returns c =
+    let s = c .before .before .before .before .before .before .before .before .before .before .before .before .before .before
+    .before .before .before .before .before .before .before in
+    let k = c .before .before .before .before .before .bundles in
+    let p = c .before .before .before .before .before .before .before .before .before .before .before .before .before .before
+    .before .before .put-ends in
+    let n = s .args .n in
+    let ends = s .args .ends in
+    let long : length ends ≡ 32 = search needs in
+    let size : length (take n ends) ≡ n = length-take-le n ends (omega (arith, s .pre .few)) in
+    let words : length (take n (p .last .1 .1 .1 .1 .1 .0)) ≡ n = length-take-le n (p .last .1 .1 .1 .1 .1 .0) (search needs) in
+    c .label-bundles .ensures (take n ends)
+    (k .ensures .bundles (take n ends) (columns-cut (take n ends) n size (p .ensures)) (size ∙ sym words) (sound-good ends n long (s .pre)))
 
 pub star-of-spec : {M : Type 1} → statement M
 star-of-spec =
     tie.close
     (tie.spec
+    (λ c. search needs)
+    (λ c. search needs)
+    (λ c. search needs)
+    (λ c. search needs)
     (λ c κs. search needs)
-    (λ c κs. search needs)
-    (λ c κs. search needs)
-    (λ c κs. search needs)
-    returns
-    (λ c κs. search needs)
-    (λ c κs. search needs)
-    returns-2)
+    (λ c. search needs)
+    (λ c. search needs)
+    (λ c. search needs)
+    (λ c. search needs)
+    slice-aggregate-bundles-4
+    (λ c. search needs)
+    slice-aggregate-bundles-5
+    (λ c. search needs)
+    bundles-requires
+    (λ c. search needs)
+    label-bundles-requires
+    returns)

@@ -1,0 +1,114 @@
+// The ends of a node, from their bytes straight to their bundles: four sums where every wall lies on an axis, else columns that are put in
+// order. No end is kept.
+use crate::end_bytes::dir_at;
+use crate::end_bytes::end_fault;
+use crate::label_bytes::mark_at;
+use bundles::bundles;
+use bundles::columns::put_end;
+use bundles::square::no_sums;
+use bundles::square::put_square;
+use bundles::square::square_bundles;
+use de9im::answer::Checked;
+use ends::edge_end::axis;
+use ends::edge_end::on_axis;
+ghost use mathlib.Core.Bool.{true};
+ghost use mathlib.Core.List.{[]};
+ghost use mathlib.Core.Path.{_≡_};
+ghost use Prim.Native.Nat.{_+_, _*_, _≤_};
+ghost use lib.ListN.{length};
+ghost use Rattle.bundles.specs.Square.{Sums};
+ghost use Rattle.plan.specs.EndBytes.{readEnds};
+ghost use Rattle.plan.specs.Inner.Gathering.{SquareRead, Wide, ColumnsRead, Gathered};
+
+// Whether all ends were read, or the first refusal; how many bundles there are, as numbers in what was lent.
+pub struct NodeEnds {
+    pub answer: Checked,
+    pub count: usize,
+}
+
+// The sums of n ends, where each can be read and lies on an axis; else nothing is said of them.
+fn read_square(s: &[u8], at: usize, n: usize, sums: &mut [u32; 4]) -> bool
+    requires { ⌜ at + 15 * n ≤ length (now s) ⌝ }
+    requires { ⌜ Sums [] (now sums) ⌝ }
+    ensures { λ r. ⌜ (r ≡ true → SquareRead n (now (s .entry)) at (now (sums .exit))) ⌝ }
+{
+    let mut i: usize = 0;
+    let mut p = at;
+    while i < n {
+        let d = dir_at(s, p);
+        if !on_axis(d) {
+            return false;
+        }
+        let fault = end_fault(s, p);
+        let Checked::Fine = fault else {
+            return false;
+        };
+        let k = axis(d) as usize;
+        put_square(mark_at(s, p + 8), k, sums);
+        i += 1;
+        p += 15;
+    }
+    true
+}
+
+// n ends in columns, or the first refusal.
+fn read_columns(
+    s: &[u8],
+    at: usize,
+    n: usize,
+    xs: &mut [i32],
+    ys: &mut [i32],
+    marks: &mut [u32],
+    words: &mut [u32],
+) -> Checked
+    requires { ⌜ at + 15 * n ≤ length (now s) ⌝ }
+    requires { ⌜ Wide n (now xs) (now ys) (now marks) (now words) ⌝ }
+    ensures { λ r. ⌜ ColumnsRead n (now (s .entry)) at r (now (xs .exit)) (now (ys .exit)) (now (marks .exit)) (now (words .exit)) ⌝ }
+{
+    let mut i: usize = 0;
+    let mut p = at;
+    while i < n {
+        let fault = end_fault(s, p);
+        let Checked::Fine = fault else {
+            return fault;
+        };
+        put_end(dir_at(s, p), mark_at(s, p + 8), i, xs, ys, marks, words);
+        i += 1;
+        p += 15;
+    }
+    Checked::Fine
+}
+
+// At most 32 ends, put in order.
+fn ordered(s: &[u8], at: usize, n: usize, out: &mut [u32]) -> NodeEnds
+    requires { ⌜ (n ≤ 32) × (at + 15 * n ≤ length (now s)) × (32 ≤ length (now out)) ⌝ }
+    ensures { λ r. ⌜ Gathered (readEnds n (now (s .entry)) at) r (now (out .exit)) ⌝ }
+{
+    let mut xs = [0i32; 32];
+    let mut ys = [0i32; 32];
+    let mut marks = [0u32; 32];
+    let mut words = [0u32; 32];
+    let answer = read_columns(s, at, n, &mut xs, &mut ys, &mut marks, &mut words);
+    let Checked::Fine = answer else {
+        return NodeEnds { answer, count: 0 };
+    };
+    let mut spare = [0u32; 32];
+    let count = bundles(&xs, &ys, &marks, &mut words[..n], &mut spare[..n], out);
+    NodeEnds { answer, count }
+}
+
+// The bundles of n ends from a place on, or the first refusal.
+pub(crate) fn node_ends(s: &[u8], at: usize, n: usize, out: &mut [u32]) -> NodeEnds
+    requires { ⌜ (n ≤ 32) × (at + 15 * n ≤ length (now s)) × (32 ≤ length (now out)) ⌝ }
+    ensures { λ r. ⌜ Gathered (readEnds n (now (s .entry)) at) r (now (out .exit)) ⌝ }
+{
+    let mut sums = no_sums();
+    if read_square(s, at, n, &mut sums) {
+        let count = square_bundles(&sums, out);
+        return NodeEnds {
+            answer: Checked::Fine,
+            count,
+        };
+    }
+    ordered(s, at, n, out)
+}

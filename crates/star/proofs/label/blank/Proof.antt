@@ -1,6 +1,0 @@
-use borrow.Author.Needs.{needs}
-use Rattle.star.proofs.label.blank.Statement.{statement}
-use Rattle.star.proofs.label.blank.Tie as tie
-
-pub blank-spec : {M : Type 1} → statement M
-blank-spec = tie.close (tie.spec (λ c κs. search needs) (λ c. simp (c .no-sides .ensures)))

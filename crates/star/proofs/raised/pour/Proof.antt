@@ -1,0 +1,41 @@
+-- Cell by cell.
+use borrow.Author.Needs.{needs}
+use Rattle.star.proofs.raised.pour.Statement.{statement}
+use Rattle.star.proofs.raised.pour.Tie as tie
+
+returns : tie.Need-returns
+returns c = simp (
+  c .cell9 .ensures,
+  c .before .cell8 .ensures,
+  c .before .before .cell7 .ensures,
+  c .before .before .before .cell6 .ensures,
+  c .before .before .before .before .cell5 .ensures,
+  c .before .before .before .before .before .cell4 .ensures,
+  c .before .before .before .before .before .before .cell3 .ensures,
+  c .before .before .before .before .before .before .before .cell2 .ensures,
+  c .before .before .before .before .before .before .before .before .cell .ensures,
+)
+
+pub pour-spec : {M : Type 1} → statement M
+pour-spec =
+    tie.close
+    (tie.spec
+    (λ c. search needs)
+    (λ c κs. search needs)
+    (λ c. search needs)
+    (λ c κs. search needs)
+    (λ c. search needs)
+    (λ c κs. search needs)
+    (λ c. search needs)
+    (λ c κs. search needs)
+    (λ c. search needs)
+    (λ c κs. search needs)
+    (λ c. search needs)
+    (λ c κs. search needs)
+    (λ c. search needs)
+    (λ c κs. search needs)
+    (λ c. search needs)
+    (λ c κs. search needs)
+    (λ c. search needs)
+    (λ c κs. search needs)
+    returns)
