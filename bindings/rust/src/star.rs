@@ -132,7 +132,7 @@ fn label_of(bytes: [u8; LABEL_BYTES]) -> Label {
 /// Joins all ends into the label of one bundle; their directions are not compared.
 ///
 /// Refused: 5; then each end in turn 8, 7. Promised: `bundledOf`, crates/star/specs/Calls.antt; the order of the ends doesn't
-/// matter (`join-shuffled`, crates/star/proofs/LawsJoin.antt).
+/// matter (`join-shuffled`, crates/ends/proofs/LawsJoin.antt).
 pub fn bundle(ends: &[EdgeEnd]) -> Result<Label, Refusal> {
     let mut room = [0; MOST_ENDS * END_BYTES];
     bundle_of_bytes(write_ends(ends, &mut room)?).map(label_of)
@@ -151,7 +151,7 @@ pub fn bundle_of_bytes(ends: &[u8]) -> Result<[u8; LABEL_BYTES], Refusal> {
 /// `area_a` and `area_b` are the node's positions in A's and in B's area, none where that one is no area.
 ///
 /// Refused: 5; each end in turn 8, 7; last 9. Promised: `starCall`, crates/star/specs/Calls.antt; there is one way to put ends
-/// into bundles in order (`only-order`, crates/star/proofs/LawsUnique.antt).
+/// into bundles in order (`only-order`, crates/ends/proofs/LawsUnique.antt).
 #[cfg(feature = "alloc")]
 pub fn star(
     ends: &[EdgeEnd],
