@@ -2,7 +2,7 @@
 use Prim.Native.Nat.{ℕ, _+_, _<_, _≤_}
 use mathlib.Core.Path.{_≡_, refl, sym, _∙_}
 use mathlib.Core.Bool.{Bool, true, false, not, cond}
-use mathlib.Core.List.{List, [], _∷_, _++_}
+use mathlib.Core.List.{List, [], _∷_, _++_, append-nil}
 use native.Mathlib.Omega.{arith}
 use native.Mathlib.Nat.{add-zero}
 use native.Mathlib.Numerals.{add-one}
@@ -15,7 +15,6 @@ use Rattle.order.specs.Words.{dirOf}
 use Rattle.bundles.specs.Marks.{joinWord}
 use Rattle.bundles.specs.Columns.{markAt, bundleWords}
 use Rattle.order.proofs.LawsMerge.{written}
-use Rattle.ends.proofs.LawsLists.{append-nil}
 
 module _ (xs ys : List ℤ) (marks : List ℕ) where
   -- the runs of the words l, where one with the word w has begun and holds t

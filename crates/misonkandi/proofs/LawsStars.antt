@@ -1,36 +1,32 @@
 -- Laws of labels as bytes, and of what a star call takes and answers. Assumes nothing.
-use Prim.Native.Nat.{ℕ, _+_, _*_, _/_, _%_, _≤_, _<_}
+use Prim.Native.Nat.{ℕ, zero, suc, _+_, _-_, _*_, _/_, _%_, _≤_, _<_}
 use mathlib.Core.Path.{_≡_, refl, sym, ap, _∙_}
 use mathlib.Core.Bool.{Bool, true, false, cond}
 use mathlib.Core.List.{List, [], _∷_, _++_, append-assoc}
 use native.Mathlib.Omega.{arith}
-use borrow.Author.Tests.{ltb-false}
 use lib.Dec.{eqb, ltb}
-use lib.ListN.{length, take, set, getD, length-append, length-take}
-use lib.Seq.{take-length, length-take-le}
+use lib.ListN.{length, take, set, getD, replicate, length-append}
+use lib.Seq.{take-length, length-take-le, take-append-seam}
 use Rattle.de9im.specs.declared.answer.Checked.{Checked}
 use Rattle.de9im.specs.declared.answer.Checked.the-variants as C
 use Rattle.de9im.specs.declared.«coordinate_position».Position.{Position}
-use Rattle.de9im.specs.declared.refusal.Refusal.{Refusal}
 use Rattle.de9im.specs.declared.refusal.Refusal.the-variants as R
 use Rattle.de9im.specs.declared.refusal.Spot.the-variants.{Nowhere}
 use Rattle.de9im.specs.Answers.{checkedPlace}
 use Rattle.de9im.specs.Refused.{placeOf, spotNo}
-use Rattle.de9im.proofs.LawsApart.{impossible}
 use Rattle.ends.specs.declared.label.Label.{Label}
 use Rattle.ends.specs.declared.«edge_end».EdgeEnd.{EdgeEnd}
-use Rattle.star.specs.declared.«edge_end_bundle_star».Labeled.{Labeled}
-use Rattle.star.specs.Calls.{refusedStar, bundledOf, starAs, starCall, starOf, completedStar}
-use Rattle.star.specs.Completing.{missingLeft, completedOf}
-use Rattle.ends.specs.Ends.{firstFault, checkedOf}
-use Rattle.ends.specs.Label.{blank, padded}
-use Rattle.ends.specs.Star.{joinedOf}
-use Rattle.star.proofs.LawsFew.{joined-few, completed-length}
-use Rattle.ends.proofs.LawsLists.{padTo, pad-step, take-more}
-use Rattle.plan.specs.EndBytes.{endsCall}
+use Rattle.star.specs.Calls.{bundledOf, starCall, starOf}
+use Rattle.star.specs.Inner.Places.{positionOf}
+use Rattle.ends.specs.Ends.{checkedOf}
+use Rattle.ends.specs.Label.{codeOf, blank, padded}
+use Rattle.ends.proofs.LawsLists.{padTo, pad-step}
+use Rattle.plan.specs.EndBytes.{endsCall, good}
+use Rattle.plan.specs.Inner.Gathering.{GatheredBy}
 use Rattle.frame.specs.Read.{readAs}
+use Rattle.plan.proofs.LawsGathering.{opened-bad}
+use Rattle.plan.proofs.LawsRecord.{call-fine}
 use Rattle.plan.proofs.LawsSmall.{readPlace, call-nowhere}
-use Rattle.de9im.proofs.LawsApart.{impossible}
 use Rattle.misonkandi.specs.Stars.{labelBytes, labelsBytes, filledBytes, countOf}
 use Rattle.misonkandi.proofs.LawsFit.{none-below}
 
@@ -70,16 +66,29 @@ module _ (n : ℕ) where
       let r₅ = one x₅ _ (p + 5) f (omega (arith, r₄ .1)) (omega arith) (r₄ .0) in
       one x₆ _ (p + 6) g (omega (arith, r₅ .1)) (omega arith) (r₅ .0) .0 ∙ simp append-assoc
 
--- the bytes of the i-th label, after those of the labels before it
-pub label-written : (ls : List Label) (i p : ℕ) (w out : List ℕ) → i < length ls → i < 32 → p ≡ 7 * i → w ≡ labelBytes (getD ls i blank)
-    → out ≡ filledBytes (labelsBytes (take i ls))
+-- the bytes of one label more
+pub label-written : (ls : List Label) (l : Label) (i p : ℕ) (w out : List ℕ) → length ls ≡ i → i < 32 → p ≡ 7 * i → w ≡ labelBytes l
+    → out ≡ filledBytes (labelsBytes ls)
     → set (set (set (set (set (set (set out p (getD w 0 0)) (p + 1) (getD w 1 0)) (p + 2) (getD w 2 0)) (p + 3) (getD w 3 0)) (p + 4)
     (getD w 4 0)) (p + 5) (getD w 5 0)) (p + 6) (getD w 6 0)
-    ≡ filledBytes (labelsBytes (take (i + 1) ls))
-label-written ls i p w out h k e v o =
-    let l : length (labelsBytes (take i ls)) ≡ p = labels-length (take i ls) ∙ omega (arith, length-take-le i ls (omega arith)) in
-    rw (v, take-more blank ls i h, labels-snoc (take i ls) (getD ls i blank))
-    (seven 224 (labelsBytes (take i ls)) out p _ _ _ _ _ _ _ l (omega arith) o)
+    ≡ filledBytes (labelsBytes (ls ++ (l ∷ [])))
+label-written ls l i p w out m k e v o =
+    let n : length (labelsBytes ls) ≡ p = labels-length ls ∙ omega arith in
+    rw (v, labels-snoc ls l) (seven 224 (labelsBytes ls) out p _ _ _ _ _ _ _ n (omega arith) o)
+
+-- a position's code, from the code that it was read from
+pub code-back : (n : ℕ) → n < 4 → codeOf (positionOf n) ≡ n
+code-back zero h = refl
+code-back (suc zero) h = refl
+code-back (suc (suc zero)) h = refl
+code-back (suc (suc (suc zero))) h = refl
+code-back (suc (suc (suc (suc n)))) h = absurd (omega arith)
+
+pub code-far : (n : ℕ) → 3 ≤ n → codeOf (positionOf n) ≡ 3
+code-far zero h = absurd (omega arith)
+code-far (suc zero) h = absurd (omega arith)
+code-far (suc (suc zero)) h = absurd (omega arith)
+code-far (suc (suc (suc n))) h = refl
 
 -- ends that were refused have no place to tell
 pub ends-near : (s : List ℕ) (c : Checked) (es : List EdgeEnd) → endsCall s ≡ readAs c es → spotNo (checkedPlace c) < 9
@@ -104,33 +113,17 @@ module _ (ends : List EdgeEnd) (n : ℕ) (h : n ≤ length ends) where
   unfolding bundledOf
   bundled-front = rw (checked-front, take-length (take n ends)) refl
 
-  pub star-front : (p q : Position) → starCall (take n ends) (length (take n ends)) p q ≡ starCall ends n p q
-  unfolding starCall
-  star-front p q = rw (checked-front, take-length (take n ends)) refl
+-- ends that were refused on the way to their bundles have no place to tell
+pub gathered-near : (s : List ℕ) (c : Checked) (k : ℕ) (out : List ℕ) → GatheredBy c (endsCall s) k out → spotNo (checkedPlace c) < 9
+gathered-near s C.Fine k out g = omega arith
+gathered-near s (C.Refused r) k out g =
+    none-below (placeOf r) (sym (ap readPlace (opened-bad (endsCall s) (C.Refused r) k out r refl g)) ∙ call-nowhere s)
 
-few-by : (n : ℕ) (t : Bool) (c : Checked) → ltb 32 n ≡ t → cond t (C.Refused R.Ends) c ≡ C.Fine → n ≤ 32
-few-by n true c e f = impossible (cc)
-few-by n false c e f = ltb-false 32 n e
+-- ends that were read are a star call's, checked
+pub star-read : (s : List ℕ) (es : List EdgeEnd) (p q : Position) → endsCall s ≡ good es → starCall es (length es) p q ≡ starOf es p q
+unfolding starCall
+star-read s es p q e = rw (call-fine s es e, take-length es) refl
 
--- ends that pass the check are at most 32
-few : (ends : List EdgeEnd) (n : ℕ) → checkedOf ends n ≡ C.Fine → n ≤ 32
-unfolding checkedOf
-few ends n e = few-by n (ltb 32 n) (firstFault (take n ends)) refl e
-
-completed-by : (miss : Bool) (ls : List Label) → length ls ≤ 32
-    → cond miss (refusedStar R.MissingLeft) (record { answer = C.Fine; labels = padded ls; count = length ls }) .count ≤ 32
-completed-by true ls h = omega arith
-completed-by false ls h = h
-
-star-by : (c : Checked) (s : Labeled) → (c ≡ C.Fine → s .count ≤ 32) → starAs c s .count ≤ 32
-star-by C.Fine s h = h refl
-star-by (C.Refused r) s h = omega arith
-
--- and so are a star's labels
-pub star-few : (ends : List EdgeEnd) (n : ℕ) (p q : Position) → starCall ends n p q .count ≤ 32
-unfolding starCall completedStar
-star-few ends n p q =
-    let es = take n ends in
-    star-by (checkedOf ends n) (starOf es p q)
-    (λ e. completed-by (missingLeft (joinedOf es)) (completedOf p q (joinedOf es))
-    (omega (arith, few ends n e, length-take n ends, completed-length p q (joinedOf es), joined-few es)))
+-- what an answer with its labels in an array writes
+pub labels-shown : (ls : List Label) (n : ℕ) → length ls ≡ n → take n (padded ls) ≡ ls
+labels-shown ls n e = rw (← e) (take-append-seam ls (replicate (32 - length ls) blank))

@@ -9,16 +9,22 @@ use de9im::refusal::Refusal;
 use ends::label::Label;
 use ends::topology_position::code;
 use plan::end_bytes::read_ends;
+use plan::node_ends::read_bundles;
 use star::edge_end_bundle::Bundled;
 use star::edge_end_bundle::bundle;
-use star::edge_end_bundle_star::Labeled;
-use star::edge_end_bundle_star::star;
+use star::edge_end_bundle_star::Start;
+use star::edge_end_bundle_star::started;
+use star::places::Places;
+use star::places::complete_word;
+ghost use mathlib.Core.Bool.{cond};
 ghost use mathlib.Core.Path.{_≡_};
-ghost use Prim.Native.Nat.{_≤_, _<_};
+ghost use Prim.Native.Nat.{_/_, _%_, _≤_, _<_};
 ghost use lib.ListN.{length, take};
 ghost use Rattle.de9im.specs.Answers.{checkedPlace};
 ghost use Rattle.de9im.specs.Refused.{spotNo};
+ghost use Rattle.ends.specs.Label.{codeOf};
 ghost use Rattle.star.specs.Answers.{bundledPlace};
+ghost use Rattle.star.specs.Inner.Places.{positionOf, labelIn, labelsFrom};
 ghost use Rattle.plan.specs.EndBytes.{endsCall};
 ghost use Rattle.misonkandi.specs.Changes.{pairOf};
 ghost use Rattle.misonkandi.specs.Words.{bitOf};
@@ -64,30 +70,6 @@ fn seven_bytes(l: Label) -> [u8; 7]
     ]
 }
 
-// The bytes of the first count labels, zeros after them.
-fn all_bytes(labels: [Label; 32], count: usize) -> [u8; 224]
-    requires { ⌜ count ≤ 32 ⌝ }
-    ensures { λ r. ⌜ r ≡ filledBytes (labelsBytes (take count labels)) ⌝ }
-{
-    let mut out = [0u8; 224];
-    let mut i: usize = 0;
-    let mut p: usize = 0;
-    while i < count {
-        let l = labels[i];
-        let w = seven_bytes(l);
-        out[p] = w[0];
-        out[p + 1] = w[1];
-        out[p + 2] = w[2];
-        out[p + 3] = w[3];
-        out[p + 4] = w[4];
-        out[p + 5] = w[5];
-        out[p + 6] = w[6];
-        i += 1;
-        p += 7;
-    }
-    out
-}
-
 fn put_bundle(b: Bundled, out: &mut [u8; 7]) -> u32
     requires { ⌜ spotNo (bundledPlace b) < 9 ⌝ }
     ensures { λ w. ⌜ (w ≡ bundleWord b) × (now (out .exit) ≡ bundleBytes b (now (out .entry))) ⌝ }
@@ -118,33 +100,87 @@ pub extern "C" fn misonkandi_bundle(ends: &[u8], label: &mut [u8; 7]) -> u32
     put_bundle(bundle(es, n), label)
 }
 
-fn put_star(s: Labeled, out: &mut [u8; 224]) -> u32
-    requires { ⌜ (s .count ≤ 32) × (spotNo (checkedPlace (s .answer)) < 9) ⌝ }
-    ensures { λ w. ⌜ (w ≡ starWord s) × (now (out .exit) ≡ starBytes s (now (out .entry))) ⌝ }
+// The code of a position that is the upper half of a place.
+fn upper(place: u32) -> u8
+    ensures { λ r. ⌜ r ≡ codeOf (positionOf (place / 4)) ⌝ }
 {
-    let answer = s.answer;
-    let labels = s.labels;
-    let count = s.count;
-    let Checked::Fine = answer else {
-        return checked_word(answer);
-    };
-    let written = all_bytes(labels, count);
-    *out = written;
-    count as u32
+    let code = place / 4;
+    if code < 3 { code as u8 } else { 3 }
+}
+
+// That of the lower half.
+fn lower(place: u32) -> u8
+    ensures { λ r. ⌜ r ≡ codeOf (positionOf (place % 4)) ⌝ }
+{
+    (place % 4) as u8
+}
+
+// A side's place. A line has none.
+fn side(area: bool, place: u32) -> u32
+    ensures { λ r. ⌜ r ≡ cond area place 0 ⌝ }
+{
+    if area { place } else { 0 }
+}
+
+// A completed label, from its places.
+fn place_bytes(l: Places) -> [u8; 7]
+    ensures { λ r. ⌜ r ≡ labelBytes (labelIn l) ⌝ }
+{
+    let on = l.on;
+    let left = side(l.area, l.left);
+    let right = side(l.area, l.right);
+    [
+        kind(l.area),
+        upper(on),
+        upper(left),
+        upper(right),
+        lower(on),
+        lower(left),
+        lower(right),
+    ]
+}
+
+// The labels of the first n words completed in one walk, their bytes with zeros after them.
+fn put_labels(words: &[u32], n: usize, start: u32, labels: &mut [u8; 224])
+    requires { ⌜ (n ≤ 32) × (n ≤ length (now words)) ⌝ }
+    ensures { λ _. ⌜ now (labels .exit) ≡ filledBytes (labelsBytes (labelsFrom start (take n (now (words .entry))))) ⌝ }
+{
+    *labels = [0u8; 224];
+    let mut cur = start;
+    let mut i: usize = 0;
+    let mut p: usize = 0;
+    while i < n {
+        let l = complete_word(cur, words[i]);
+        cur = l.left;
+        let w = place_bytes(l);
+        labels[p] = w[0];
+        labels[p + 1] = w[1];
+        labels[p + 2] = w[2];
+        labels[p + 3] = w[3];
+        labels[p + 4] = w[4];
+        labels[p + 5] = w[5];
+        labels[p + 6] = w[6];
+        i += 1;
+        p += 7;
+    }
 }
 
 fn star_at(ends: &[u8], p: Position, q: Position, labels: &mut [u8; 224]) -> u32
     ensures { λ w. ⌜ (w ≡ starWord (starOn (endsCall (now (ends .entry))) p q))
         × (now (labels .exit) ≡ starBytes (starOn (endsCall (now (ends .entry))) p q) (now (labels .entry))) ⌝ }
 {
-    let n = ends.len() / 15;
-    let read = read_ends(ends);
+    let mut words = [0u32; 32];
+    let read = read_bundles(ends, &mut words);
     let answer = read.answer;
-    let es = read.ends;
+    let count = read.count;
     let Checked::Fine = answer else {
         return checked_word(answer);
     };
-    put_star(star(es, n, p, q), labels)
+    let Start::At(cur) = started(&words, count, p, q) else {
+        return refusal_word(Refusal::MissingLeft);
+    };
+    put_labels(&words, count, cur, labels);
+    count as u32
 }
 
 // How many ends the bytes are, as a record looks at it before anything behind the count.

@@ -119,10 +119,6 @@ list-by n (good es) r l e =
       rw e (padded-length es (omega arith)),
     )
 
-pub ends-list : (n : ℕ) (s : List ℕ) (at : ℕ) (r : EndsRead) → n ≤ 32 → r ≡ endsRead (readEnds n s at)
-    → (readEnds n s at ≡ readAs (r .answer) (take n (r .ends))) × (length (r .ends) ≡ 32)
-ends-list n s at r h e = list-by n (readEnds n s at) r (λ es q. (read-length n s at es q, h)) e
-
 -- bytes that are all ends: at most 32, read one after the other
 pub call-read : (s : List ℕ) (es : List EdgeEnd) → endsCall s ≡ good es
     → (length s / 15 ≤ 32) × (readEnds (length s / 15) s 0 ≡ good es)

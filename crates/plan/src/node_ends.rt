@@ -9,6 +9,7 @@ use bundles::square::no_sums;
 use bundles::square::put_square;
 use bundles::square::square_bundles;
 use de9im::answer::Checked;
+use de9im::refusal::Refusal;
 use ends::edge_end::axis;
 use ends::edge_end::on_axis;
 ghost use mathlib.Core.Bool.{true};
@@ -17,7 +18,7 @@ ghost use mathlib.Core.Path.{_≡_};
 ghost use Prim.Native.Nat.{_+_, _*_, _≤_};
 ghost use lib.ListN.{length};
 ghost use Rattle.bundles.specs.Square.{Sums};
-ghost use Rattle.plan.specs.EndBytes.{readEnds};
+ghost use Rattle.plan.specs.EndBytes.{readEnds, endsCall};
 ghost use Rattle.plan.specs.Inner.Gathering.{SquareRead, Wide, ColumnsRead, Gathered};
 
 // Whether all ends were read, or the first refusal; how many bundles there are, as numbers in what was lent.
@@ -111,4 +112,29 @@ pub(crate) fn node_ends(s: &[u8], at: usize, n: usize, out: &mut [u32]) -> NodeE
         };
     }
     ordered(s, at, n, out)
+}
+
+// No bundles beside a refusal.
+fn no_bundles(r: Refusal) -> NodeEnds
+    ensures { λ n. ⌜ n ≡ record { answer = Checked.Refused r; count = 0 } ⌝ }
+{
+    NodeEnds {
+        answer: Checked::Refused(r),
+        count: 0,
+    }
+}
+
+// The bundles of bytes that are all ends, as a star call takes them: no whole ends are 4, more than 32 are 5.
+pub fn read_bundles(s: &[u8], out: &mut [u32]) -> NodeEnds
+    requires { ⌜ 32 ≤ length (now out) ⌝ }
+    ensures { λ r. ⌜ Gathered (endsCall (now (s .entry))) r (now (out .exit)) ⌝ }
+{
+    let n = s.len() / 15;
+    if s.len() % 15 != 0 {
+        return no_bundles(Refusal::Length);
+    }
+    if 32 < n {
+        return no_bundles(Refusal::Ends);
+    }
+    node_ends(s, 0, n, out)
 }

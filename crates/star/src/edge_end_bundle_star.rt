@@ -24,6 +24,7 @@ ghost use Rattle.bundles.specs.Columns.{Columns};
 ghost use Rattle.bundles.specs.Shown.{Bundles};
 ghost use Rattle.star.specs.Calls.{unlabeled, starOf, starCall};
 ghost use Rattle.star.specs.Inner.Places.{labelsFrom};
+ghost use Rattle.star.specs.Inner.Started.{startedStar};
 
 // The answer to a star, with its completed labels in order beside it: blanks past the count.
 pub struct Labeled {
@@ -60,20 +61,37 @@ fn complete_words(words: &[u32], n: usize, start: u32) -> [Label; 32]
     out
 }
 
-// The star of a node's bundles, as words in order: their labels completed.
-pub fn label_bundles(out: &[u32], count: usize, area_a: Position, area_b: Position) -> Labeled
-    requires { ⌜ (count ≤ 32) × (count ≤ length (now out)) ⌝ }
-    ensures { λ r. ⌜ ((es : List EdgeEnd) → Bundles es (take count (now (out .entry))) → r ≡ starOf es («area_a») («area_b»)) ⌝ }
+// Where the walk that completes a star's labels starts: what is current. Missing where a left is.
+pub enum Start {
+    Missing,
+    At(u32),
+}
+
+// The start of a node's bundles, as words in order.
+pub fn started(out: &[u32], count: usize, area_a: Position, area_b: Position) -> Start
+    requires { ⌜ count ≤ length (now out) ⌝ }
+    ensures { λ r. ⌜ ((es : List EdgeEnd) → Bundles es (take count (now (out .entry)))
+        → startedStar r (take count (now (out .entry))) ≡ starOf es («area_a») («area_b»)) ⌝ }
 {
     let starts = start::look(out, count);
     if start::missing(starts) {
-        return unlabeled(Checked::Refused(Refusal::MissingLeft));
+        return Start::Missing;
     }
-    let cur = start_place(starts, area_a, area_b);
-    Labeled {
-        answer: Checked::Fine,
-        labels: complete_words(out, count, cur),
-        count,
+    Start::At(start_place(starts, area_a, area_b))
+}
+
+// The star of a node's bundles: their labels completed.
+fn label_bundles(out: &[u32], count: usize, area_a: Position, area_b: Position) -> Labeled
+    requires { ⌜ (count ≤ 32) × (count ≤ length (now out)) ⌝ }
+    ensures { λ r. ⌜ ((es : List EdgeEnd) → Bundles es (take count (now (out .entry))) → r ≡ starOf es («area_a») («area_b»)) ⌝ }
+{
+    match started(out, count, area_a, area_b) {
+        Start::Missing => unlabeled(Checked::Refused(Refusal::MissingLeft)),
+        Start::At(cur) => Labeled {
+            answer: Checked::Fine,
+            labels: complete_words(out, count, cur),
+            count,
+        },
     }
 }
 
