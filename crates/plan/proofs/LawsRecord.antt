@@ -22,6 +22,7 @@ use Rattle.star.specs.declared.pouring.Node.{Node}
 use Rattle.ends.specs.declared.«topology_position».Sides.{Sides}
 use Rattle.star.specs.Calls.{completedStar, pouredStar}
 use Rattle.star.specs.Completing.{missingLeft}
+use Rattle.ends.specs.Count.{mostEnds}
 use Rattle.ends.specs.Ends.{badDir, lineWithSide, faultOf, firstFault, checkedOf}
 use Rattle.ends.specs.Star.{joinedOf}
 use Rattle.plan.specs.EndBytes.{Ends, dirAt, endAt, readEnds, endsCall}
@@ -93,7 +94,7 @@ unfolding checkedOf
 call-fine s es e =
     let c = call-read s es e in
     let m : length es ≡ length s / 15 = read-length (length s / 15) s 0 es (c .1) in
-    rw (le-ltb 32 (length es) (omega (arith, c .0)), take-length es) (ends-fine (length s / 15) s 0 es (c .1))
+    rw (le-ltb mostEnds (length es) (omega (arith, c .0)), take-length es) (ends-fine (length s / 15) s 0 es (c .1))
 
 -- what a poured star answers: refusal 9, or the raised numbers
 module _ (ns : List ℕ) (used : ℕ) (n : Node) (es : List EdgeEnd) (d : CellsAnswer) (e : d ≡ pouredStar ns n es) where
@@ -120,7 +121,7 @@ module _ (ns : List ℕ) (used : ℕ) (n : Node) (es : List EdgeEnd) (d : CellsA
       go false m = fine-refused (sym (told false m) ∙ q)
 
 -- a node whose positions and ends were read is poured as they say
-pub node-poured : (ns : List ℕ) (used : ℕ) (s : List ℕ) (n : ℕ) (es : List EdgeEnd) (x : BytesAnswer) → nodeFault s ≡ Fine → n ≡ byteAt s 8
-    → readEnds n s 9 ≡ good es → x ≡ pouredBy ns used (withEnds (nodeRead s) es) → x ≡ pouredBy ns used (nodeBody s)
+pub node-poured : (ns : List ℕ) (used : ℕ) (s : List ℕ) (n at : ℕ) (es : List EdgeEnd) (x : BytesAnswer) → nodeFault s ≡ Fine
+    → readEnds n s at ≡ good es → x ≡ pouredBy ns used (withEnds (nodeRead s) es) → x ≡ pouredBy ns used (nodeBody n at s)
 unfolding nodeBody
-node-poured ns used s n es x f e r q = q ∙ rw (node-reading s, f, ← e, r) refl
+node-poured ns used s n at es x f r q = q ∙ rw (node-reading s, f, r) refl
