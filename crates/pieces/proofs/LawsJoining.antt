@@ -26,9 +26,8 @@ use Rattle.plan.proofs.LawsAfter.{spent, later-bytes}
 use Rattle.plan.proofs.LawsFloor.{floor-empty, floor-refused, floor-accepted, floor-used, floor-more, floor-part, floor-left}
 use Rattle.plan.proofs.LawsLong.{Long, RefusedAlike, long-alike}
 use Rattle.plan.proofs.LawsPart.{short-answer}
-use Rattle.pieces.specs.declared.pieces.State.{State}
-use Rattle.pieces.specs.Pieces.{frontSize, Kept}
-use Rattle.pieces.specs.Inner.Joining.{added, cutDown, stopAt, waiting, Fed}
+use Rattle.pieces.specs.State.{frontSize}
+use Rattle.pieces.specs.Inner.Joining.{cutDown, stopAt}
 use Rattle.pieces.proofs.LawsLists.{take-both, take-least}
 use Rattle.pieces.proofs.LawsPieces.{added-twice}
 

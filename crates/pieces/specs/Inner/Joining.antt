@@ -12,8 +12,9 @@ use Rattle.de9im.specs.declared.refusal.Refusal.the-variants.{Short}
 use Rattle.frame.specs.Words.{promised}
 use Rattle.plan.specs.declared.floor.FloorAnswer.{FloorAnswer}
 use Rattle.plan.specs.Floor.{stoppedAs, floorOf}
-use Rattle.pieces.specs.declared.pieces.State.{State}
-use Rattle.pieces.specs.Pieces.{frontSize, Kept}
+use Rattle.pieces.specs.declared.state.Counted.{Counted}
+use Rattle.pieces.specs.State.{frontSize}
+use Rattle.pieces.specs.Pieces.{Kept}
 
 -- an answer behind another, in 64 bits
 abbrev pub added : FloorAnswer → FloorAnswer → FloorAnswer
@@ -29,15 +30,14 @@ abbrev pub stopAt : List ℕ → List ℕ → ℕ → ℕ → Checked → Checke
 stopAt ns held need come stop = cond (leb need frontSize) stop (cond (ltb come need) stop (floorOf ns (cutDown held) .stop))
 
 -- a front that isn't accepted, when `more` bytes have come behind `count`
-abbrev pub waiting : FloorAnswer → List ℕ → ℕ → ℕ → Checked → State
+abbrev pub waiting : FloorAnswer → List ℕ → ℕ → ℕ → Checked → Counted
 waiting g held count more stop =
     record {
       floor = added g (stoppedAs (stopAt (g .cells) held (2 + promised held) (min (2 + promised held) (count + more)) stop) (g .cells));
-      held = held;
       count = min (2 + promised held) (count + more);
     }
 
 -- bytes fed behind an earlier answer
-pub record Fed (g : FloorAnswer) (bytes : List ℕ) (s : State) : Type 0 where
+pub record Fed (g : FloorAnswer) (bytes : List ℕ) (s : Counted) (held : List ℕ) : Type 0 where
   pub floor : s .floor ≡ added g (floorOf (g .cells) bytes)
-  pub rest : s .floor .stop ≡ Refused Short → Kept (drop (floorOf (g .cells) bytes .used) bytes) s
+  pub rest : s .floor .stop ≡ Refused Short → Kept (drop (floorOf (g .cells) bytes .used) bytes) (s .count) held
