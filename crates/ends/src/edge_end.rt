@@ -180,11 +180,14 @@ pub fn fault(e: EdgeEnd) -> Checked
     )
 }
 
+// So many ends a bundle or star call takes.
+pub const MOST_ENDS: usize = 600;
+
 // The count, then each end in turn.
-pub fn check(ends: [EdgeEnd; 32], count: usize) -> Checked
+pub fn check(ends: [EdgeEnd; MOST_ENDS], count: usize) -> Checked
     ensures { λ r. ⌜ r ≡ checkedOf ends count ⌝ }
 {
-    if 32 < count {
+    if MOST_ENDS < count {
         return Checked::Refused(Refusal::Ends);
     }
     let mut i: usize = 0;

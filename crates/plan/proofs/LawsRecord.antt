@@ -87,14 +87,6 @@ ends-fine zero s at es q =
 ends-fine (suc n) s at es q =
     ends-by (endAt s at) (readEnds n s (at + 15)) es (λ e. end-fine s at e) (λ fs p. ends-fine n s (at + 15) fs p) q
 
--- bytes that were read as ends pass the check that a public star call makes
-pub call-fine : (s : List ℕ) (es : List EdgeEnd) → endsCall s ≡ good es → checkedOf es (length es) ≡ Fine
-unfolding checkedOf
-call-fine s es e =
-    let c = call-read s es e in
-    let m : length es ≡ length s / 15 = read-length (length s / 15) s 0 es (c .1) in
-    rw (le-ltb 32 (length es) (omega (arith, c .0)), take-length es) (ends-fine (length s / 15) s 0 es (c .1))
-
 -- what a poured star answers: refusal 9, or the raised numbers
 module _ (ns : List ℕ) (used : ℕ) (n : Node) (es : List EdgeEnd) (d : CellsAnswer) (e : d ≡ pouredStar ns n es) where
   told : (t : Bool) → missingLeft (joinedOf es) ≡ t → d .answer ≡ cond t (Refused MissingLeft) Fine
@@ -120,7 +112,7 @@ module _ (ns : List ℕ) (used : ℕ) (n : Node) (es : List EdgeEnd) (d : CellsA
       go false m = fine-refused (sym (told false m) ∙ q)
 
 -- a node whose positions and ends were read is poured as they say
-pub node-poured : (ns : List ℕ) (used : ℕ) (s : List ℕ) (n : ℕ) (es : List EdgeEnd) (x : BytesAnswer) → nodeFault s ≡ Fine → n ≡ byteAt s 8
-    → readEnds n s 9 ≡ good es → x ≡ pouredBy ns used (withEnds (nodeRead s) es) → x ≡ pouredBy ns used (nodeBody s)
+pub node-poured : (ns : List ℕ) (used : ℕ) (s : List ℕ) (n at : ℕ) (es : List EdgeEnd) (x : BytesAnswer) → nodeFault s ≡ Fine
+    → readEnds n s at ≡ good es → x ≡ pouredBy ns used (withEnds (nodeRead s) es) → x ≡ pouredBy ns used (nodeBody n at s)
 unfolding nodeBody
-node-poured ns used s n es x f e r q = q ∙ rw (node-reading s, f, ← e, r) refl
+node-poured ns used s n at es x f r q = q ∙ rw (node-reading s, f, r) refl

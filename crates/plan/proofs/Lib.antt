@@ -9,6 +9,7 @@ pub mod LawsAfter
 pub mod LawsNumbers
 pub mod LawsPart
 pub mod LawsFloor
+pub mod LawsForm
 pub mod LawsFeeding
 pub mod LawsRun
 pub mod ExamplesFloor

@@ -1,6 +1,7 @@
 // Plan records: from bytes to nine letters, over the star.
 pub mod end_bytes;
 pub mod floor;
+mod form;
 mod label_bytes;
 mod node_bytes;
 pub mod node_ends;

@@ -9,7 +9,6 @@ use bundles::square::no_sums;
 use bundles::square::put_square;
 use bundles::square::square_bundles;
 use de9im::answer::Checked;
-use de9im::refusal::Refusal;
 use ends::edge_end::axis;
 use ends::edge_end::on_axis;
 ghost use mathlib.Core.Bool.{true};
@@ -18,7 +17,7 @@ ghost use mathlib.Core.Path.{_≡_};
 ghost use Prim.Native.Nat.{_+_, _*_, _≤_};
 ghost use lib.ListN.{length};
 ghost use Rattle.bundles.specs.Square.{Sums};
-ghost use Rattle.plan.specs.EndBytes.{readEnds, endsCall};
+ghost use Rattle.plan.specs.EndBytes.{readEnds};
 ghost use Rattle.plan.specs.Inner.Gathering.{SquareRead, Wide, ColumnsRead, Gathered};
 
 // Whether all ends were read, or the first refusal; how many bundles there are, as numbers in what was lent.
@@ -80,27 +79,78 @@ fn read_columns(
     Checked::Fine
 }
 
-// At most 32 ends, put in order.
-fn ordered(s: &[u8], at: usize, n: usize, out: &mut [u32]) -> NodeEnds
-    requires { ⌜ (n ≤ 32) × (at + 15 * n ≤ length (now s)) × (32 ≤ length (now out)) ⌝ }
+// n ends put in order, over columns that are lent.
+fn ordered(
+    s: &[u8],
+    at: usize,
+    n: usize,
+    xs: &mut [i32],
+    ys: &mut [i32],
+    marks: &mut [u32],
+    words: &mut [u32],
+    spare: &mut [u32],
+    out: &mut [u32],
+) -> NodeEnds
+    requires { ⌜ (at + 15 * n ≤ length (now s)) × (n ≤ length (now spare)) × (n ≤ length (now out)) ⌝ }
+    requires { ⌜ Wide n (now xs) (now ys) (now marks) (now words) ⌝ }
+    ensures { λ r. ⌜ Gathered (readEnds n (now (s .entry)) at) r (now (out .exit)) ⌝ }
+{
+    let answer = read_columns(s, at, n, xs, ys, marks, words);
+    let Checked::Fine = answer else {
+        return NodeEnds { answer, count: 0 };
+    };
+    let count = bundles(xs, ys, marks, &mut words[..n], &mut spare[..n], out);
+    NodeEnds { answer, count }
+}
+
+// Columns of 32, and of 600: the one proof serves both.
+fn ordered_few(s: &[u8], at: usize, n: usize, out: &mut [u32]) -> NodeEnds
+    requires { ⌜ (n ≤ 32) × (at + 15 * n ≤ length (now s)) × (n ≤ length (now out)) ⌝ }
     ensures { λ r. ⌜ Gathered (readEnds n (now (s .entry)) at) r (now (out .exit)) ⌝ }
 {
     let mut xs = [0i32; 32];
     let mut ys = [0i32; 32];
     let mut marks = [0u32; 32];
     let mut words = [0u32; 32];
-    let answer = read_columns(s, at, n, &mut xs, &mut ys, &mut marks, &mut words);
-    let Checked::Fine = answer else {
-        return NodeEnds { answer, count: 0 };
-    };
     let mut spare = [0u32; 32];
-    let count = bundles(&xs, &ys, &marks, &mut words[..n], &mut spare[..n], out);
-    NodeEnds { answer, count }
+    ordered(
+        s,
+        at,
+        n,
+        &mut xs,
+        &mut ys,
+        &mut marks,
+        &mut words,
+        &mut spare,
+        out,
+    )
 }
 
-// The bundles of n ends from a place on, or the first refusal.
-pub(crate) fn node_ends(s: &[u8], at: usize, n: usize, out: &mut [u32]) -> NodeEnds
-    requires { ⌜ (n ≤ 32) × (at + 15 * n ≤ length (now s)) × (32 ≤ length (now out)) ⌝ }
+fn ordered_many(s: &[u8], at: usize, n: usize, out: &mut [u32]) -> NodeEnds
+    requires { ⌜ (n ≤ 600) × (at + 15 * n ≤ length (now s)) × (n ≤ length (now out)) ⌝ }
+    ensures { λ r. ⌜ Gathered (readEnds n (now (s .entry)) at) r (now (out .exit)) ⌝ }
+{
+    let mut xs = [0i32; 600];
+    let mut ys = [0i32; 600];
+    let mut marks = [0u32; 600];
+    let mut words = [0u32; 600];
+    let mut spare = [0u32; 600];
+    ordered(
+        s,
+        at,
+        n,
+        &mut xs,
+        &mut ys,
+        &mut marks,
+        &mut words,
+        &mut spare,
+        out,
+    )
+}
+
+// The bundles of n ends from a place on, or the first refusal. Few ends don't pay for 600 places.
+pub fn node_ends(s: &[u8], at: usize, n: usize, out: &mut [u32]) -> NodeEnds
+    requires { ⌜ (n ≤ 600) × (at + 15 * n ≤ length (now s)) × (n ≤ length (now out)) × (4 ≤ length (now out)) ⌝ }
     ensures { λ r. ⌜ Gathered (readEnds n (now (s .entry)) at) r (now (out .exit)) ⌝ }
 {
     let mut sums = no_sums();
@@ -111,30 +161,8 @@ pub(crate) fn node_ends(s: &[u8], at: usize, n: usize, out: &mut [u32]) -> NodeE
             count,
         };
     }
-    ordered(s, at, n, out)
-}
-
-// No bundles beside a refusal.
-fn no_bundles(r: Refusal) -> NodeEnds
-    ensures { λ n. ⌜ n ≡ record { answer = Checked.Refused r; count = 0 } ⌝ }
-{
-    NodeEnds {
-        answer: Checked::Refused(r),
-        count: 0,
+    if n <= 32 {
+        return ordered_few(s, at, n, out);
     }
-}
-
-// The bundles of bytes that are all ends, as a star call takes them: no whole ends are 4, more than 32 are 5.
-pub fn read_bundles(s: &[u8], out: &mut [u32]) -> NodeEnds
-    requires { ⌜ 32 ≤ length (now out) ⌝ }
-    ensures { λ r. ⌜ Gathered (endsCall (now (s .entry))) r (now (out .exit)) ⌝ }
-{
-    let n = s.len() / 15;
-    if s.len() % 15 != 0 {
-        return no_bundles(Refusal::Length);
-    }
-    if 32 < n {
-        return no_bundles(Refusal::Ends);
-    }
-    node_ends(s, 0, n, out)
+    ordered_many(s, at, n, out)
 }

@@ -10,7 +10,7 @@ use Rattle.de9im.specs.Patterns.{checkOf, matchesOf, agreeAll}
 use Rattle.predicates.specs.Predicates.{holds}
 use Rattle.de9im.specs.Text.{cellLetterOf, firstBad}
 use Rattle.ends.specs.Bundle.{count, onJoined, sideJoined, halfJoined, joinOf}
-use Rattle.star.specs.Calls.{bundledOf, completedStar, pouredStar}
+use Rattle.star.specs.Calls.{bundledOf, starCall, completedStar, pouredStar}
 use Rattle.star.specs.Completing.{startOf, walkFrom, walkOf, any, missingLeft, filledOf}
 use Rattle.ends.specs.Direction.{orderOf}
 use Rattle.ends.specs.Ends.{firstFault, checkedOf}
@@ -32,7 +32,7 @@ use Rattle.verdict.specs.declared.Verdict.the-variants.{Open, NoForGood}
 use Rattle.verdict.specs.declared.pattern.Judged.the-variants as J
 use Rattle.verdict.proofs.LawsLoop.{given}
 use Rattle.worked.specs.Example.{Every, none, _and_, cells}
-use Rattle.worked.specs.Examples.{p1-to-p14, printed, edges, collapsing}
+use Rattle.worked.specs.Examples.{p1-to-p14, printed, edges, collapsing, sixHundred}
 
 -- the verdict's two: a bad byte; and by what the letters can still come to
 p7 : Judges (J.Refused (BadByte 2)) (bytes "T*X******") (cells "FFFFFFFF2")
@@ -71,3 +71,8 @@ unfolding recordOf saidOf nodeOf nodeBody nodeAt pouredStar completedStar readEn
     orderOf count onJoined sideJoined halfJoined joinOf insertDir dirsFrom keep startOf walkFrom walkOf any missingLeft filledOf
     pourNode pourLabel pourLabels
 collapsing-holds = refl and refl and none
+
+pub six-hundred-hold : Every sixHundred
+unfolding bundledOf starCall completedStar checkedOf firstFault orderOf count onJoined sideJoined halfJoined joinOf insertDir dirsFrom
+    keep startOf walkFrom walkOf any missingLeft filledOf
+six-hundred-hold = refl and refl and (refl, refl) and none

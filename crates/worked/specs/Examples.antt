@@ -1,10 +1,12 @@
 -- Document 01, "Examples to prove": P1 to P14; "The program's output .. here for P1"; and "At the edges: 32 ends pass, 33 are 5; a node
--- without ends passes; offset 0 in 12 bytes passes, offset 1 is 12." And request R-6: "one worked star of your own".
+-- without ends passes; offset 0 in 12 bytes passes, offset 1 is 12." Request R-6: "one worked star of your own". Request R-11: "Star and
+-- bundle calls take 600".
 use Prim.Native.Nat.{ℕ, zero, suc}
 use mathlib.Core.Bool.{true, false}
 use mathlib.Core.List.{List, [], _∷_, _++_}
 use lib.IntN.{pos}
 use lib.Ieee.{ofInt, binary64}
+use lib.ListN.{replicate}
 use Rattle.de9im.specs.declared.«coordinate_position».Position.{Position}
 use Rattle.de9im.specs.declared.«coordinate_position».Position.the-variants.{None, Inside, OnBoundary}
 use Rattle.de9im.specs.declared.patterns.Matched.the-variants.{Refused}
@@ -27,6 +29,8 @@ use Rattle.worked.specs.Example.{
   verdict-says,
   places-give,
   bundle-gives,
+  star-gives,
+  ends-refused,
   program-prints,
   report-gives,
   report-refused,
@@ -165,3 +169,10 @@ abbrev pub collapsing : List Example
 collapsing =
     record-gives "FFFFFFFF2" (nodeOfTwo ++ lineEnd two nought onBoundary ++ lineEnd nought minusTwo nothing) 39 "FFF1FF1F2" ∷
     record-gives "FFFFFFFF2" (nodeOfTwo ++ lineEnd nought two onBoundary ++ lineEnd two nought nothing) 39 "FFF1FF1F2" ∷ []
+
+-- request R-11's edge of a call: 600 ends pass, 601 are 5. All in one direction, so an even count on the boundary is Inside
+abbrev pub sixHundred : List Example
+sixHundred =
+    bundle-gives (replicate 600 boundaryEnd) (line Inside) ∷
+    star-gives (replicate 600 boundaryEnd) None None (line Inside ∷ []) ∷
+    ends-refused (replicate 601 boundaryEnd) None None Ends ∷ []

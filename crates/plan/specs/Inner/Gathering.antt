@@ -53,5 +53,5 @@ GatheredBy (Refused q) (good es) k out = ⊥
 GatheredBy (Refused q) (bad r) k out = q ≡ r
 
 pub record Gathered (x : Ends) (r : NodeEnds) (out : List ℕ) : Type 0 where
-  pub few : r .count ≤ 32
+  pub few : r .count ≤ length out
   pub by : GatheredBy (r .answer) x (r .count) out
