@@ -10,7 +10,7 @@ use Rattle.pieces.specs.Stops.{stopOf}
 
 -- one byte more than the longest accepted record
 abbrev pub frontSize : ℕ
-frontSize = 490
+frontSize = 9011
 
 abbrev pub headSize : ℕ
 headSize = 34

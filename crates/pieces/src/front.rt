@@ -1,5 +1,5 @@
-// The front of a record whose bytes come in pieces, in place. No accepted record has more than 489 bytes, so 490 of them tell all there is
-// to tell: a record that has come whole and is longer is refused by its front alone.
+// The front of a record whose bytes come in pieces, in place. No accepted record has more than 9,010 bytes, so 9,011 of them tell all there
+// is to tell: a record that has come whole and is longer is refused by its front alone.
 use de9im::answer::Checked;
 use de9im::cells::Cells;
 use plan::floor::floor;
@@ -12,12 +12,12 @@ ghost use Rattle.pieces.specs.State.{frontSize};
 ghost use Rattle.pieces.specs.Inner.Joining.{cutDown};
 
 // One byte more than the longest accepted record.
-pub const FRONT: usize = 490;
+pub const FRONT: usize = 9011;
 
-// The length field of a record of that many bytes, 488.
-const HIGH: u8 = 1;
+// The length field of a record of that many bytes, 9,009.
+const HIGH: u8 = 35;
 
-const LOW: u8 = 232;
+const LOW: u8 = 49;
 
 pub(crate) fn least(a: usize, b: usize) -> usize
     ensures { λ r. ⌜ r ≡ min a b ⌝ }

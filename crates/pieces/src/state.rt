@@ -14,7 +14,7 @@ ghost use Rattle.pieces.specs.Inner.Head.{eightOf, headOf, Fits};
 // nine cells at 25; from 34 on the front of a record.
 pub const HEAD: usize = 34;
 
-pub const STATE: usize = 524;
+pub const STATE: usize = 9045;
 
 // What is known of the bytes that have come.
 pub struct Counted {

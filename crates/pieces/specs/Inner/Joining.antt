@@ -21,9 +21,9 @@ abbrev pub added : FloorAnswer → FloorAnswer → FloorAnswer
 added g f =
     record { stop = f .stop; used = (g .used + f .used) % 2 ^ 64; records = (g .records + f .records) % 2 ^ 64; cells = f .cells }
 
--- the length field says 488, so that all 490 bytes are one record
+-- the length field says 9,009, so that all 9,011 bytes are one record
 abbrev pub cutDown : List ℕ → List ℕ
-cutDown held = set (set held 0 1) 1 232
+cutDown held = set (set held 0 35) 1 49
 
 -- a record that needs more bytes than a front has is refused when they all have come
 abbrev pub stopAt : List ℕ → List ℕ → ℕ → ℕ → Checked → Checked

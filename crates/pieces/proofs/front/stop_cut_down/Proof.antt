@@ -8,7 +8,7 @@ use Rattle.pieces.proofs.front.stop_cut_down.Statement.{statement}
 use Rattle.pieces.proofs.front.stop_cut_down.Tie as tie
 
 returns : tie.Need-returns
-returns c = (ap (λ (f : FloorAnswer). f .stop) (c .floor .ensures), put-back _ 1 232)
+returns c = (ap (λ (f : FloorAnswer). f .stop) (c .floor .ensures), put-back _ 35 49)
 
 pub stop-cut-down-spec : {M : Type 1} → statement M
 stop-cut-down-spec =
