@@ -21,7 +21,7 @@ ghost use Rattle.plan.specs.Floor.{floorOf};
 ghost use Rattle.pieces.specs.Pieces.{countedAs, HoldsIn, Holds};
 ghost use Rattle.pieces.specs.State.{frontSize, stateSize};
 
-// Nothing has come. What the state held is no longer looked at.
+// Nothing has come. What the state held is no longer looked at; a length field that has not come whole may be, so that one is written.
 pub fn start(cells: Cells, state: &mut [u8; STATE])
     ensures { λ _. ⌜ Holds cells [] (now (state .exit)) ⌝ }
 {
@@ -31,6 +31,8 @@ pub fn start(cells: Cells, state: &mut [u8; STATE])
         records: 0,
         cells,
     };
+    state[34] = 0;
+    state[35] = 0;
     bytes::copy(&head(Counted { floor, count: 0 }), state);
 }
 

@@ -1,8 +1,6 @@
 use borrow.Author.Needs.{needs}
-use denote.Ref.{now}
 use mathlib.Core.Path.{_≡_, refl, sym, ap}
 use mathlib.Core.List.{[]}
-use lib.ListN.{drop}
 use Rattle.de9im.proofs.LawsApart.{fine-refused}
 use Rattle.plan.proofs.LawsFloor.{floor-empty}
 use Rattle.de9im.specs.declared.answer.Checked.the-variants.{Fine}
@@ -17,16 +15,17 @@ returns : tie.Need-returns
 returns c =
     let f = c .before .before .before in
     let s = f .before .args in
-    let held = drop 34 (now (s .state)) in
     let none : Counted = record { floor = stoppedAs Fine (s .cells); count = 0 } in
-    rw (in-front (now (s .state)) (f .head .result) none (c .copy .last .1 .0) (f .head .ensures .0) (c .copy .ensures .1))
-    (still-holds none (f .head .ensures .1) (s .cells) [] held
+    rw (in-front _ (f .head .result) none (c .copy .last .1 .0) (f .head .ensures .0) (c .copy .ensures .1))
+    (still-holds none (f .head .ensures .1) (s .cells) [] _
     (record { floor = ap countedAs (sym (floor-empty (s .cells))); rest = λ e. fine-refused e }))
 
 pub start-spec : {M : Type 1} → statement M
 start-spec =
     tie.close
     (tie.spec
+    (λ c. search needs)
+    (λ c. search needs)
     (λ c κs. search needs)
     (λ c. search needs)
     (λ c κs. search needs)
