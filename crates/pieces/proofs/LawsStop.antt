@@ -1,10 +1,10 @@
--- Laws of the state as it is lent: what was packed is read back, for a state that holds a floor, and no refusal read has a place. Assumes
--- nothing.
-use Prim.Native.Nat.{ℕ, zero, suc}
+-- Laws of why a floor stops: its number is read back, and no refusal read has a place. Assumes nothing.
+use Prim.Native.Nat.{ℕ, zero, suc, _<_}
 use Prim.{Unit}
-use mathlib.Core.Path.{_≡_, refl, sym, ap, subst⁻¹, _∙_}
+use mathlib.Core.Path.{_≡_, refl, sym, ap, _∙_}
 use mathlib.Core.Bool.{Bool, true, false, cond, _&&_}
 use mathlib.Core.List.{List, [], _∷_}
+use native.Mathlib.Omega.{arith}
 use lib.Dec.{eqb}
 use lib.ListN.{getD, drop}
 use Rattle.de9im.specs.declared.answer.Checked.{Checked}
@@ -16,16 +16,12 @@ use Rattle.de9im.specs.declared.refusal.Spot.the-variants.{Nowhere, At}
 use Rattle.de9im.specs.Answers.{checkedNo, checkedPlace, answerPlace}
 use Rattle.de9im.specs.Refused.{numberOf, placeOf}
 use Rattle.de9im.proofs.LawsApart.{true-false, nowhere-at}
-use Rattle.de9im.proofs.LawsRefused.{some-number}
+use Rattle.de9im.proofs.LawsRefused.{numbered, some-number}
 use Rattle.plan.specs.declared.floor.FloorAnswer.{FloorAnswer}
 use Rattle.plan.specs.Floor.{floorOf}
 use Rattle.plan.proofs.LawsFloor.{floor-stands}
 use Rattle.plan.proofs.LawsSmall.{record-small}
-use Rattle.pieces.specs.declared.lent.Pieces.{Pieces}
-use Rattle.pieces.specs.declared.pieces.State.{State}
-use Rattle.pieces.specs.Pieces.{Holds}
-use Rattle.pieces.specs.Lent.{packedAs, HoldsLent}
-use Rattle.pieces.specs.Inner.Unpacking.{rows, refusalOf, stopOf, unpackedAs}
+use Rattle.pieces.specs.Stops.{rows, refusalOf, stopOf}
 
 -- a number that none of the rows has, as the last arm of the `match` is told
 abbrev NoRow : ℕ → Type 0
@@ -84,6 +80,11 @@ pub stop-back : (x : Checked) → checkedPlace x ≡ Nowhere → stopOf (checked
 stop-back Fine e = refl
 stop-back (Refused r) e = rw (some-number r) (ap Refused (refusal-back r e))
 
+-- a byte holds it
+pub small-number : {n : ℕ} (x : Checked) → n ≡ checkedNo x → n < 256
+small-number Fine e = omega arith
+small-number (Refused r) e = omega (arith, numbered r .1)
+
 -- no row has a place, by a test of them all
 abbrev isNowhere : Spot → Bool
 isNowhere Nowhere = true
@@ -118,18 +119,3 @@ floor-nowhere ns bs = by (floorOf ns bs .stop) refl
     by (Refused r) e =
         let f = floorOf ns bs in
         sym (ap answerPlace (floor-stands ns bs r e .answer)) ∙ record-small (f .cells) (drop (f .used) bs) .nowhere
-
--- so what was packed is read back
-unpacked-back : (ns bs : List ℕ) (s : State) → Holds ns bs s → unpackedAs (packedAs s) ≡ s
-unpacked-back ns bs s h =
-    let e = stop-back (s .floor .stop) (ap (λ (f : FloorAnswer). checkedPlace (f .stop)) (h .floor) ∙ floor-nowhere ns bs) in
-    ap (λ (x : Checked).
-    record {
-      floor = record { stop = x; used = s .floor .used; records = s .floor .records; cells = s .floor .cells };
-      held = s .held;
-      count = s .count;
-    }) e
-
-pub lent-holds : (ns bs : List ℕ) (p : Pieces) → HoldsLent ns bs p → Holds ns bs (unpackedAs p)
-lent-holds ns bs p h =
-    subst⁻¹ (Holds ns bs) (ap unpackedAs (h .packed) ∙ unpacked-back ns bs (h .state) (h .holds)) (h .holds)

@@ -1,8 +1,8 @@
 use borrow.Author.Needs.{needs}
 use mathlib.Core.Path.{sym}
-use Rattle.pieces.proofs.LawsLent.{no-row}
-use Rattle.pieces.proofs.lent.refusal_of.Statement.{statement}
-use Rattle.pieces.proofs.lent.refusal_of.Tie as tie
+use Rattle.pieces.proofs.LawsStop.{no-row}
+use Rattle.pieces.proofs.stop.refusal_of.Statement.{statement}
+use Rattle.pieces.proofs.stop.refusal_of.Tie as tie
 
 pub refusal-of-spec : {M : Type 1} → statement M
 refusal-of-spec =

@@ -1,4 +1,5 @@
--- How a lent state is read. The number tells a floor's refusal, since none of a floor's has a place (`stop-back` in proofs/LawsLent.antt).
+-- How a state's refusal is read. The number tells a floor's refusal, since none of a floor's has a place (`stop-back` in
+-- proofs/LawsStop.antt).
 use Prim.Native.Nat.{ℕ}
 use mathlib.Core.Bool.{cond}
 use mathlib.Core.List.{List, [], _∷_}
@@ -8,8 +9,6 @@ use Rattle.de9im.specs.declared.answer.Checked.{Checked}
 use Rattle.de9im.specs.declared.answer.Checked.the-variants.{Fine, Refused}
 use Rattle.de9im.specs.declared.refusal.Refusal.{Refusal}
 use Rattle.de9im.specs.declared.refusal.Refusal.the-variants as R
-use Rattle.pieces.specs.declared.lent.Pieces.{Pieces}
-use Rattle.pieces.specs.declared.pieces.State.{State}
 
 -- row n has number n; RingOpen stands for 22 and for every number that no refusal without a place has
 abbrev pub rows : List Refusal
@@ -22,11 +21,3 @@ refusalOf n = getD rows n R.RingOpen
 
 abbrev pub stopOf : ℕ → Checked
 stopOf n = cond (eqb n 0) Fine (Refused (refusalOf n))
-
-abbrev pub unpackedAs : Pieces → State
-unpackedAs p =
-    record {
-      floor = record { stop = stopOf (p .stop); used = p .used; records = p .records; cells = p .cells };
-      held = p .held;
-      count = p .count;
-    }

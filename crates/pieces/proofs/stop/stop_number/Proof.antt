@@ -1,6 +1,6 @@
 use borrow.Author.Needs.{needs}
-use Rattle.pieces.proofs.lent.stop_number.Statement.{statement}
-use Rattle.pieces.proofs.lent.stop_number.Tie as tie
+use Rattle.pieces.proofs.stop.stop_number.Statement.{statement}
+use Rattle.pieces.proofs.stop.stop_number.Tie as tie
 
 returns-2 : tie.Need-returns-2
 returns-2 c = simp (c .number .ensures, c .before .before .stop .given .1)

@@ -1,8 +1,8 @@
 use borrow.Author.Needs.{needs}
 use borrow.Author.Tests.{eq-eqb, ne-eqb}
 use mathlib.Core.Path.{refl}
-use Rattle.pieces.proofs.lent.stop_of.Statement.{statement}
-use Rattle.pieces.proofs.lent.stop_of.Tie as tie
+use Rattle.pieces.proofs.stop.stop_of.Statement.{statement}
+use Rattle.pieces.proofs.stop.stop_of.Tie as tie
 
 returns : tie.Need-returns
 returns c = rw (eq-eqb _ 0 (c .if1 .taken)) refl
