@@ -74,13 +74,13 @@ module _ (s : List ℕ) (a : Accepted s) where
       omega (arith, r .is .whole, r .is .promises)
 
   -- the bytes of the other version
-  to-edge : byteAt s 3 ≡ 2 → otherBytes s ≡ good (edgeBytes (otherVersion (byteAt s 2)) (labelIn s))
+  pub to-edge : byteAt s 3 ≡ 2 → otherBytes s ≡ good (edgeBytes (otherVersion (byteAt s 2)) (labelIn s))
   to-edge h = other-by s (a .x) (byteAt s 2) (a .said) refl ∙ rw (no-node s (byteAt s 2) (labelIn s) (edge-here h)) refl
 
-  to-two : (byteAt s 3 ≡ 2 → ⊥) → byteAt s 2 ≡ 1 → otherBytes s ≡ nodeAs 2 one s
+  pub to-two : (byteAt s 3 ≡ 2 → ⊥) → byteAt s 2 ≡ 1 → otherBytes s ≡ nodeAs 2 one s
   to-two h v = other-by s (a .x) 1 (a .said) v ∙ rw (node-kind h, form-one 1 refl) refl
 
-  to-one : (byteAt s 3 ≡ 2 → ⊥) → (byteAt s 2 ≡ 1 → ⊥) → otherBytes s ≡ nodeAs 1 two s
+  pub to-one : (byteAt s 3 ≡ 2 → ⊥) → (byteAt s 2 ≡ 1 → ⊥) → otherBytes s ≡ nodeAs 1 two s
   to-one h v =
       let k : byteAt s 2 ≡ 2 = eqb-true (byteAt s 2) 2 (rw (ne-eqb (byteAt s 2) 1 v) at (node-here h .known)) in
       other-by s (a .x) 2 (a .said) k ∙ rw (node-kind h, form-two 2 (λ e. omega (arith, e))) refl

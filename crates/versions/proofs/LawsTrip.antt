@@ -5,23 +5,28 @@ use mathlib.Core.Path.{_≡_, refl, sym, ap, _∙_}
 use mathlib.Core.Bool.{Bool, true, false, cond, _&&_}
 use mathlib.Core.List.{List, _∷_, _++_}
 use native.Mathlib.Omega.{arith}
-use borrow.Author.Tests.{ltb-true, ltb-false, le-ltb, lt-ltb, eqb-true, eq-eqb, ne-eqb}
-use lib.Dec.{eqb, ltb}
-use lib.ListN.{length, take}
-use Rattle.de9im.specs.declared.answer.Answer.the-variants.{Used}
+use borrow.Author.Tests.{ltb-false, le-ltb, leb-true, eq-eqb}
+use lib.Dec.{eqb, ltb, leb}
+use lib.ListN.{length, take, drop}
+use lib.Seq.{drop-at, length-take-le}
+use Rattle.de9im.specs.declared.answer.Answer.the-variants.{Used, Refused}
 use Rattle.de9im.specs.declared.answer.BytesAnswer.{BytesAnswer}
 use Rattle.de9im.specs.declared.refusal.Refusal.{Refusal}
-use Rattle.de9im.specs.declared.refusal.Refusal.the-variants.{Ends}
+use Rattle.de9im.specs.declared.refusal.Refusal.the-variants.{Ends, NoRoom}
+use Rattle.de9im.proofs.LawsApart.{impossible}
 use Rattle.de9im.proofs.LawsBool.{told, both}
+use Rattle.frame.specs.Lent.{wroteOf, writtenOf}
 use Rattle.frame.specs.Read.{Read, good, bad, _>>=_}
 use Rattle.frame.specs.Words.{byteAt, AreBytes, promised, twoBytesAt}
 use Rattle.frame.proofs.LawsRead.{bad-good, passed}
 use Rattle.plan.specs.Record.{pouredBy, recordOf}
 use Rattle.plan.specs.Said.{Form, Said, isVersion, formOf, edgeOf, nodeBody, saidOf}
 use Rattle.plan.proofs.LawsSaid.{Whole, is-whole}
+use Rattle.report.specs.Converting.{wroteAs}
 use Rattle.versions.specs.Converting.{
   otherVersion,
   framed,
+  countBytes,
   nodeBytes,
   edgeBytes,
   placesIn,
@@ -30,6 +35,8 @@ use Rattle.versions.specs.Converting.{
   nodeAs,
   versionAs,
   otherBytes,
+  convertOf,
+  convertedOf,
 }
 use Rattle.versions.proofs.LawsEdge.{EdgeIn, edge-made, edge-read, label-long, no-node, said-edge, same-edge, own-edge}
 use Rattle.versions.proofs.LawsFirst.{other-known, other-other}
@@ -98,8 +105,8 @@ module _ (s : List ℕ) (x : Said) (e : saidOf s ≡ good x) (rest : List ℕ) w
         record {
           same = same;
           back =
-              λ small. other-by bytes x w (same ∙ e) (made .version) ∙ rw (eq-eqb _ _ (made .kind), o) (as-node v made)
-              ∙ rw (le-ltb _ _ (node .few)) (ap good (own-node s v small (node .is)));
+              λ small. other-by bytes x w (same ∙ e) (made .version)
+              ∙ rw (eq-eqb _ _ (made .kind), o, as-node v made, le-ltb _ _ (node .few)) (ap good (own-node s v small (node .is)));
         }
 
   module _ (k : eqb (byteAt s 3) 1 ≡ false) where
@@ -126,11 +133,11 @@ framed-used w r rest = omega arith
 
 node-used : (w n : ℕ) (ps es rest : List ℕ) → 2 + promised (nodeBytes w n ps es ++ rest) ≡ length (nodeBytes w n ps es)
 unfolding nodeBytes
-node-used w n ps es rest = framed-used w _ rest
+node-used w n ps es rest = framed-used w (1 ∷ (ps ++ (countBytes w n ++ es))) rest
 
 edge-used : (w : ℕ) (ls rest : List ℕ) → 2 + promised (edgeBytes w ls ++ rest) ≡ length (edgeBytes w ls)
 unfolding edgeBytes
-edge-used w ls rest = framed-used w _ rest
+edge-used w ls rest = framed-used w (2 ∷ ls) rest
 
 module _ (s bs rest : List ℕ) (o : otherBytes s ≡ good bs) where
   whole : Whole s (converts s bs o .x)
@@ -175,3 +182,45 @@ module _ (s bs rest : List ℕ) (o : otherBytes s ≡ good bs) where
   pub same-poured : (ns : List ℕ) → recordOf ns (bs ++ rest) ≡ record { answer = Used (length bs); cells = recordOf ns s .cells }
   unfolding recordOf
   same-poured ns = rw (same-said, converts s bs o .said, used) refl
+
+-- ---- so in the buffer: the bytes from the offset on
+pub record Lies (s buf : List ℕ) (at n : ℕ) : Type 0 where
+  pub bytes : List ℕ
+  pub is : otherBytes s ≡ good bytes
+  pub long : length bytes ≡ n
+  pub there : drop at (convertedOf s buf at) ≡ bytes ++ drop (at + n) buf
+
+pub lies : (s buf : List ℕ) (at n : ℕ) → convertOf s buf at ≡ Used n → Lies s buf at n
+unfolding convertOf convertedOf wroteOf writtenOf
+lies s buf at n e = by (otherBytes s) refl e
+  where
+    by : (y : Read (List ℕ)) → otherBytes s ≡ y → wroteAs y buf at ≡ Used n → Lies s buf at n
+    by (bad r) q f = impossible (cc)
+    by (good bs) q f = told (leb (at + length bs) (length buf))
+        (λ t.
+        let g : length bs ≡ n =
+            let h : Used (length bs) ≡ Used n = sym (rw t refl) ∙ f in
+            cc in
+        record {
+          bytes = bs;
+          is = q;
+          long = g;
+          there =
+              rw (q, t, ← g)
+              (drop-at (take at buf) (bs ++ drop (at + length bs) buf) at (length-take-le at buf (omega (arith, leb-true (at + length bs) (length buf) t))));
+        })
+        (λ t.
+        let h : Refused NoRoom ≡ Used n = sym (rw t refl) ∙ f in
+        impossible (cc))
+
+module _ (s buf : List ℕ) (at n : ℕ) (e : convertOf s buf at ≡ Used n) where
+  pub poured-there : (ns : List ℕ)
+      → recordOf ns (drop at (convertedOf s buf at)) ≡ record { answer = Used n; cells = recordOf ns s .cells }
+  poured-there ns =
+      let l = lies s buf at n e in
+      rw (l .there, same-poured s (l .bytes) (drop (at + n) buf) (l .is) ns, l .long) refl
+
+  pub back-there : AreBytes s → otherBytes (drop at (convertedOf s buf at)) ≡ good (take (2 + promised s) s)
+  back-there small =
+      let l = lies s buf at n e in
+      rw (l .there) (there-and-back s (l .bytes) (drop (at + n) buf) (l .is) small)
