@@ -5,7 +5,7 @@ use mathlib.Core.List.{List, _++_, append-assoc}
 use native.Mathlib.Omega.{arith}
 use borrow.Author.Tests.{le-leb}
 use lib.ListN.{length, take, drop, length-append}
-use lib.Seq.{take-at, drop-at, take-append-le, take-take, length-take-le}
+use lib.Seq.{drop-at, take-append-le, take-take, length-take-le}
 use Rattle.de9im.specs.declared.answer.Answer.the-variants.{Used, Refused}
 use Rattle.de9im.specs.declared.refusal.Refusal.the-variants.{NoRoom}
 use Rattle.frame.specs.Lent.{wroteOf, writtenOf}
@@ -41,7 +41,8 @@ module _ (xs : List ℕ) (at : ℕ) (hs ts : List ℕ) where
     pub both-written : writtenOf hs first at ≡ writtenOf (hs ++ ts) xs at
     both-written =
         let l : length (take mid xs) ≡ mid = length-take-le mid xs (omega arith) in
-        let a : take at first ≡ take at xs = ap (take at) first-is ∙ take-append-le at (take mid xs) _ (omega (arith, l)) ∙ take-take at mid xs (omega arith) in
+        let a : take at first ≡ take at xs =
+        ap (take at) first-is ∙ take-append-le at (take mid xs) _ (omega (arith, l)) ∙ take-take at mid xs (omega arith) in
         let b : drop mid first ≡ ts ++ drop (mid + length ts) xs = ap (drop mid) first-is ∙ drop-at (take mid xs) _ mid l in
         let c : mid + length ts ≡ at + length (hs ++ ts) = omega (arith, length-append hs ts) in
         spelled hs at first (omega (arith, first-long)) ∙ rw (a, b, c) (ap (λ (l : List ℕ). take at xs ++ l) (sym (append-assoc hs ts _)))

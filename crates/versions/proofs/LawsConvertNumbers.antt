@@ -26,7 +26,7 @@ use Rattle.plan.specs.Said.{Said, saidOf}
 use Rattle.plan.proofs.LawsNumbers.{record-number}
 use Rattle.plan.proofs.LawsSmall.{record-small}
 use Rattle.report.specs.Converting.{wroteAs}
-use Rattle.versions.specs.Converting.{otherBytes, convertOf}
+use Rattle.versions.specs.Converting.{convertOf}
 use Rattle.versions.specs.ConvertNumbers.{backAbove, otherLength, convertNo}
 use Rattle.versions.proofs.LawsTrip.{other-bad}
 use Rattle.versions.proofs.LawsTurned.{turned}

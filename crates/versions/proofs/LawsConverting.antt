@@ -1,13 +1,12 @@
 -- What converting answers, by what reading the record answered. Assumes nothing.
 use Prim.Native.Nat.{ℕ, _+_, _*_, _≤_}
 use mathlib.Core.Path.{_≡_, refl, sym, ap, _∙_}
-use mathlib.Core.Bool.{true, false}
+use mathlib.Core.Bool.{true}
 use mathlib.Core.List.{List}
 use native.Mathlib.Omega.{arith}
 use borrow.Author.Tests.{eqb-true, ne-eqb}
 use lib.Dec.{eqb}
 use lib.ListN.{length}
-use Rattle.de9im.specs.declared.answer.Answer.{Answer}
 use Rattle.de9im.specs.declared.answer.Answer.the-variants.{Used, Refused}
 use Rattle.de9im.specs.declared.answer.BytesAnswer.{BytesAnswer}
 use Rattle.de9im.specs.declared.refusal.Refusal.{Refusal}
@@ -17,7 +16,7 @@ use Rattle.frame.specs.Lent.{wroteOf, writtenOf}
 use Rattle.frame.specs.Read.{Read, good, bad}
 use Rattle.frame.specs.Words.{byteAt, promised, twoBytesAt}
 use Rattle.plan.specs.Record.{pouredBy, recordOf}
-use Rattle.plan.specs.Said.{Said, one, two, isVersion, formOf, saidOf}
+use Rattle.plan.specs.Said.{Said, one, two, formOf, saidOf}
 use Rattle.plan.proofs.LawsForm.{form-fits, form-one, form-two}
 use Rattle.plan.proofs.LawsSaid.{says}
 use Rattle.report.specs.Converting.{wroteAs, writtenAs}
@@ -98,7 +97,8 @@ module _ (s buf : List ℕ) (at : ℕ) where
       (e ∙ p .0, p .1)
 
   pub as-edge : Accepted s → byteAt s 3 ≡ 2 → (w : ℕ) → w ≡ otherVersion (byteAt s 2)
-      → (wroteOf (length (edgeBytes w (labelIn s))) buf at ≡ convertOf s buf at) × (writtenOf (edgeBytes w (labelIn s)) buf at ≡ convertedOf s buf at)
+      → (wroteOf (length (edgeBytes w (labelIn s))) buf at ≡ convertOf s buf at)
+      × (writtenOf (edgeBytes w (labelIn s)) buf at ≡ convertedOf s buf at)
   as-edge a h w e = said (good (edgeBytes w (labelIn s))) (to-edge s a h ∙ rw e refl)
 
   pub as-two : Accepted s → (byteAt s 3 ≡ 2 → ⊥) → byteAt s 2 ≡ 1

@@ -1,21 +1,21 @@
 -- An isolated edge's bytes in each version, as proofs/LawsNode.antt says it of a node's. Assumes nothing.
-use Prim.Native.Nat.{ℕ, suc, _+_, _-_, _≤_, _<_}
+use Prim.Native.Nat.{ℕ, _+_, _-_, _≤_, _<_}
 use mathlib.Core.Path.{_≡_, refl, sym, ap, _∙_}
 use mathlib.Core.Bool.{Bool, true, false, cond, not}
-use mathlib.Core.List.{List, [], _∷_, _++_}
+use mathlib.Core.List.{List, _∷_, _++_}
 use native.Mathlib.Omega.{arith}
 use borrow.Author.Tests.{eqb-true, not-false, eq-eqb, ne-eqb}
 use lib.Dec.{eqb}
 use lib.ListN.{length, take, drop, length-append, length-take, length-drop}
 use lib.Seq.{take-at, getD-take, getD-drop}
 use Rattle.de9im.specs.declared.refusal.Refusal.the-variants.{Length, Kind}
-use Rattle.frame.specs.Read.{Read, good, bad}
+use Rattle.frame.specs.Read.{good, bad}
 use Rattle.frame.specs.Words.{byteAt, AreBytes, promised}
 use Rattle.frame.proofs.LawsRead.{bad-good, passed}
-use Rattle.plan.specs.Said.{Form, Said, isVersion, formOf, nodeOf, edgeOf, saidOf}
+use Rattle.plan.specs.Said.{Said, isVersion, edgeOf, saidOf}
 use Rattle.plan.proofs.LawsMoved.{Moved, label-moved}
 use Rattle.plan.proofs.LawsSaid.{is-whole}
-use Rattle.versions.specs.Converting.{framed, edgeBytes, labelIn}
+use Rattle.versions.specs.Converting.{edgeBytes, labelIn}
 use Rattle.versions.proofs.LawsFirst.{four-more, high-low, by-kind}
 
 -- t starts with an isolated edge of version w, whose label has these bytes
@@ -82,7 +82,7 @@ pub same-edge : {t u : List ℕ} {w v : ℕ} {ls : List ℕ} → EdgeIn t w ls �
 unfolding edgeOf
 same-edge {t} {u} x y =
     let moved : Moved 7 t 4 u 4 = λ i j l h e.
-        label-byte x i (i - 4) (omega arith) (omega arith) ∙ sym (label-byte y j (i - 4) (omega arith) (omega arith)) in
+    label-byte x i (i - 4) (omega arith) (omega arith) ∙ sym (label-byte y j (i - 4) (omega arith) (omega arith)) in
     rw (x .promises, y .promises, label-moved 7 t 4 u 4 moved 4 4 (omega arith) (omega arith) refl) refl
 
 -- an edge's own bytes

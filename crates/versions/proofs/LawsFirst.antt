@@ -1,7 +1,7 @@
 -- Bytes taken one by one from the front, and the checks that every accepted record passes. Assumes nothing.
 use Prim.Native.Nat.{ℕ, suc, _+_, _*_, _/_, _%_, _≤_, _<_}
 use mathlib.Core.Path.{_≡_, refl}
-use mathlib.Core.Bool.{Bool, true, false, cond, _||_}
+use mathlib.Core.Bool.{Bool, true, false, cond}
 use mathlib.Core.List.{List, _∷_}
 use native.Mathlib.Omega.{arith}
 use borrow.Author.Tests.{le-ltb, eqb-true}
@@ -9,7 +9,7 @@ use lib.Dec.{eqb}
 use lib.ListN.{length, take, drop}
 use lib.Seq.{drop-cons}
 use Rattle.de9im.proofs.LawsBool.{told}
-use Rattle.frame.specs.Words.{byteAt, AreBytes, promised}
+use Rattle.frame.specs.Words.{byteAt, promised}
 use Rattle.plan.specs.Said.{isVersion, formOf, byKind, saidOf}
 use Rattle.versions.specs.Converting.{otherVersion}
 

@@ -1,25 +1,25 @@
 -- A node's bytes in each version: what was written is read again, the same bytes say the same in both, and a node's own bytes are those
 -- that writing it gives. Assumes nothing.
-use Prim.Native.Nat.{ℕ, suc, _+_, _*_, _-_, _/_, _%_, _≤_, _<_}
+use Prim.Native.Nat.{ℕ, suc, _+_, _*_, _-_, _≤_, _<_}
 use mathlib.Core.Path.{_≡_, refl, sym, ap, _∙_}
-use mathlib.Core.Bool.{Bool, true, false, cond, not}
+use mathlib.Core.Bool.{true, cond, not}
 use mathlib.Core.List.{List, [], _∷_, _++_}
 use native.Mathlib.Omega.{arith}
 use borrow.Author.Tests.{ltb-false, eqb-true, not-false, eq-eqb}
 use lib.Dec.{eqb, ltb}
-use lib.ListN.{length, take, drop, getD, length-append, length-take, length-drop}
-use lib.Seq.{take-at, getD-take, getD-drop, length-take-le}
+use lib.ListN.{length, take, drop, length-append, length-take, length-drop}
+use lib.Seq.{take-at, getD-take, getD-drop}
 use Rattle.de9im.specs.declared.refusal.Refusal.the-variants.{Length, Ends}
 use Rattle.de9im.proofs.LawsBool.{told}
-use Rattle.frame.specs.Read.{Read, good, bad}
+use Rattle.frame.specs.Read.{good, bad}
 use Rattle.frame.specs.Words.{byteAt, AreBytes, promised, twoBytesAt}
 use Rattle.frame.proofs.LawsRead.{passed}
-use Rattle.plan.specs.Said.{Form, Said, one, two, isVersion, formOf, nodeBody, nodeOf, edgeOf, saidOf}
-use Rattle.plan.proofs.LawsForm.{Fits, form-fits, form-one, form-two}
+use Rattle.plan.specs.Said.{Form, Said, one, two, isVersion, formOf, nodeBody, nodeOf, saidOf}
+use Rattle.plan.proofs.LawsForm.{form-fits}
 use Rattle.plan.proofs.LawsMoved.{Moved, ends-moved, node-same}
 use Rattle.plan.proofs.LawsRecordOrder.{node-body}
 use Rattle.plan.proofs.LawsSaid.{is-whole}
-use Rattle.versions.specs.Converting.{asTwo, framed, countBytes, nodeBytes, placesIn, endsIn, nodeAs}
+use Rattle.versions.specs.Converting.{asTwo, framed, nodeBytes, placesIn, endsIn, nodeAs}
 use Rattle.versions.proofs.LawsFirst.{one-more, four-more, high-low, by-kind}
 
 -- t starts with a node of version w, whose form is f: n ends, its positions, the bytes of its ends
@@ -110,7 +110,8 @@ module _ (t : List ℕ) (w n : ℕ) (ps es : List ℕ) (is : NodeIn (formOf w) t
       let based : f .base ≤ promised t = omega (arith, is .promises) in
       let k : eqb (byteAt t 3) 1 ≡ true = eq-eqb _ _ (is .kind) in
       let c = is .count in
-      by-kind t (omega (arith, is .whole)) (is .whole) (omega arith) (rw v known) ∙ rw (k, v) (node-body f t based (rw c few) (rw c (is .promises)))
+      by-kind t (omega (arith, is .whole)) (is .whole) (omega arith) (rw v known)
+      ∙ rw (k, v) (node-body f t based (rw c few) (rw c (is .promises)))
       ∙ ap (λ (m : ℕ). nodeBody m (2 + f .base) t) c
 
 -- all bytes of the ends are there
@@ -134,7 +135,8 @@ unfolding nodeBody
 same-body {f} {g} {t} {u} {w} {v} {n} {ps} {es} x y =
     let p : placesIn t ≡ placesIn u = x .places ∙ sym (y .places) in
     let moved : Moved (15 * n) t (2 + f .base) u (2 + g .base) = λ i j l h e.
-        end-byte x i (i - (2 + f .base)) (omega arith) (omega arith) ∙ sym (end-byte y j (i - (2 + f .base)) (omega arith) (omega arith)) in
+    end-byte x i (i - (2 + f .base)) (omega arith) (omega arith)
+    ∙ sym (end-byte y j (i - (2 + f .base)) (omega arith) (omega arith)) in
     rw (
       node-same t u (cc) (cc) (cc) (cc),
       ends-moved (15 * n) t (2 + f .base) u (2 + g .base) moved n (2 + f .base) (2 + g .base) (omega arith) (omega arith) (omega arith),

@@ -1,8 +1,8 @@
 -- Converting: which records are converted and which are 5, a converted record says and pours the same, and back again gives the first
 -- bytes. For every string of bytes, whatever follows the record. Assumes nothing.
-use Prim.Native.Nat.{ℕ, _+_, _*_, _≤_}
+use Prim.Native.Nat.{ℕ, _+_, _≤_}
 use mathlib.Core.Path.{_≡_, refl, sym, ap, _∙_}
-use mathlib.Core.Bool.{Bool, true, false, cond, _&&_}
+use mathlib.Core.Bool.{true, false}
 use mathlib.Core.List.{List, _∷_, _++_}
 use native.Mathlib.Omega.{arith}
 use borrow.Author.Tests.{ltb-false, le-ltb, leb-true, eq-eqb}
@@ -10,17 +10,16 @@ use lib.Dec.{eqb, ltb, leb}
 use lib.ListN.{length, take, drop}
 use lib.Seq.{drop-at, length-take-le}
 use Rattle.de9im.specs.declared.answer.Answer.the-variants.{Used, Refused}
-use Rattle.de9im.specs.declared.answer.BytesAnswer.{BytesAnswer}
 use Rattle.de9im.specs.declared.refusal.Refusal.{Refusal}
 use Rattle.de9im.specs.declared.refusal.Refusal.the-variants.{Ends, NoRoom}
 use Rattle.de9im.proofs.LawsApart.{impossible}
-use Rattle.de9im.proofs.LawsBool.{told, both}
+use Rattle.de9im.proofs.LawsBool.{told}
 use Rattle.frame.specs.Lent.{wroteOf, writtenOf}
 use Rattle.frame.specs.Read.{Read, good, bad, _>>=_}
-use Rattle.frame.specs.Words.{byteAt, AreBytes, promised, twoBytesAt}
+use Rattle.frame.specs.Words.{byteAt, AreBytes, promised}
 use Rattle.frame.proofs.LawsRead.{bad-good, passed}
-use Rattle.plan.specs.Record.{pouredBy, recordOf}
-use Rattle.plan.specs.Said.{Form, Said, isVersion, formOf, edgeOf, nodeBody, saidOf}
+use Rattle.plan.specs.Record.{recordOf}
+use Rattle.plan.specs.Said.{Said, isVersion, formOf, saidOf}
 use Rattle.plan.proofs.LawsSaid.{Whole, is-whole}
 use Rattle.report.specs.Converting.{wroteAs}
 use Rattle.versions.specs.Converting.{
@@ -32,7 +31,6 @@ use Rattle.versions.specs.Converting.{
   placesIn,
   endsIn,
   labelIn,
-  nodeAs,
   versionAs,
   otherBytes,
   convertOf,
@@ -124,7 +122,8 @@ module _ (s : List ℕ) (x : Said) (e : saidOf s ≡ good x) (rest : List ℕ) w
         record {
           same = same;
           back =
-              λ small. other-by t x w (same ∙ e) (m .version) ∙ rw (no-node t w (labelIn s) m, o, m .label) (ap good (own-edge s v small edge));
+              λ small. other-by t x w (same ∙ e) (m .version)
+              ∙ rw (no-node t w (labelIn s) m, o, m .label) (ap good (own-edge s v small edge));
         }
 
 -- ---- whatever is converted
@@ -164,7 +163,8 @@ module _ (s bs rest : List ℕ) (o : otherBytes s ≡ good bs) where
   trip : Trip s bs rest
   trip =
       let c = converts s bs o in
-      by-cases (λ (l : List ℕ). Trip s l rest) (node-trip s (c .x) (c .said) rest) (λ k. edge-trip s (c .x) (c .said) rest k (whole .version))
+      by-cases (λ (l : List ℕ). Trip s l rest) (node-trip s (c .x) (c .said) rest)
+      (λ k. edge-trip s (c .x) (c .said) rest k (whole .version))
 
   used : 2 + promised (bs ++ rest) ≡ length bs
   used =
@@ -199,15 +199,16 @@ lies s buf at n e = by (otherBytes s) refl e
     by (good bs) q f = told (leb (at + length bs) (length buf))
         (λ t.
         let g : length bs ≡ n =
-            let h : Used (length bs) ≡ Used n = sym (rw t refl) ∙ f in
-            cc in
+        let h : Used (length bs) ≡ Used n = sym (rw t refl) ∙ f in
+        cc in
         record {
           bytes = bs;
           is = q;
           long = g;
           there =
               rw (q, t, ← g)
-              (drop-at (take at buf) (bs ++ drop (at + length bs) buf) at (length-take-le at buf (omega (arith, leb-true (at + length bs) (length buf) t))));
+              (drop-at (take at buf) (bs ++ drop (at + length bs) buf) at
+              (length-take-le at buf (omega (arith, leb-true (at + length bs) (length buf) t))));
         })
         (λ t.
         let h : Refused NoRoom ≡ Used n = sym (rw t refl) ∙ f in

@@ -1,24 +1,25 @@
--- An accepted record is converted to as many bytes as the other version has, or is 5 exactly where it is a node of version 2 with more than
--- 32 ends. Assumes nothing.
+-- An accepted record is converted to as many bytes as the other version has, or is 5 exactly where it is a node of version 2 with more
+-- than 32 ends. Assumes nothing.
 use Prim.Native.Nat.{ℕ, _+_, _*_, _≤_}
-use mathlib.Core.Path.{_≡_, refl, sym, ap, _∙_}
+use mathlib.Core.Path.{_≡_, refl, sym, _∙_}
 use mathlib.Core.Bool.{Bool, true, false, cond, _&&_}
-use mathlib.Core.List.{List, _∷_}
+use mathlib.Core.List.{List, _++_}
 use native.Mathlib.Omega.{arith}
 use borrow.Author.Tests.{ltb-false, le-ltb, eqb-true, eqb-false, eq-eqb, ne-eqb}
 use lib.Dec.{eqb, ltb}
-use lib.ListN.{length}
+use lib.ListN.{length, take}
 use Rattle.de9im.specs.declared.refusal.Refusal.the-variants.{Ends}
 use Rattle.de9im.proofs.LawsBool.{told}
 use Rattle.frame.specs.Read.{good, bad}
-use Rattle.frame.specs.Words.{byteAt, twoBytesAt}
-use Rattle.plan.specs.Said.{one, two, formOf}
+use Rattle.frame.specs.Words.{byteAt, AreBytes, promised, twoBytesAt}
+use Rattle.plan.specs.Said.{one, two, formOf, saidOf}
 use Rattle.plan.proofs.LawsForm.{form-one, form-two}
 use Rattle.versions.specs.Converting.{otherVersion, nodeBytes, edgeBytes, placesIn, endsIn, labelIn, nodeAs, otherBytes}
 use Rattle.versions.specs.ConvertNumbers.{backAbove, otherLength}
 use Rattle.versions.proofs.LawsConverting.{Accepted, edge-here, node-here, to-edge, to-two, to-one}
 use Rattle.versions.proofs.LawsEdge.{label-long, no-node}
 use Rattle.versions.proofs.LawsNode.{NodeRead, ends-long}
+use Rattle.versions.proofs.LawsTrip.{same-said, there-and-back}
 
 pub record Turned (s : List ℕ) : Type 0 where
   pub bytes : List ℕ
@@ -86,3 +87,22 @@ module _ (s : List ℕ) (a : Accepted s) where
       told (eqb (byteAt s 3) 2) (λ e. edge-turned (eqb-true _ _ e)) (λ e.
       let h : byteAt s 3 ≡ 2 → ⊥ = eqb-false _ _ e in
       told (eqb (byteAt s 2) 1) (λ v. two-turned h (eqb-true _ _ v)) (λ v. one-turned h (eqb-false _ _ v)))
+
+-- so every accepted record of version 1, every edge and every node of at most 32 ends goes there and back, and the others are 5
+pub record Round (s rest : List ℕ) : Type 0 where
+  pub bytes : List ℕ
+  pub there : otherBytes s ≡ good bytes
+  pub same : saidOf (bytes ++ rest) ≡ saidOf s
+  pub back : AreBytes s → otherBytes (bytes ++ rest) ≡ good (take (2 + promised s) s)
+
+pub round : (s rest : List ℕ) → Accepted s → backAbove s ≡ false → Round s rest
+round s rest a f =
+    let t = turned s a in
+    let o : otherBytes s ≡ good (t .bytes) = t .is ∙ rw f refl in
+    record { bytes = t .bytes; there = o; same = same-said s (t .bytes) rest o; back = there-and-back s (t .bytes) rest o }
+
+pub too-many : (s : List ℕ) → Accepted s → backAbove s ≡ true → otherBytes s ≡ bad Ends
+too-many s a e = turned s a .is ∙ rw e refl
+
+pub version-one : (s : List ℕ) → byteAt s 2 ≡ 1 → backAbove s ≡ false
+version-one s v = rw v refl

@@ -9,7 +9,7 @@ use lib.Dec.{eqb, ltb}
 use lib.ListN.{length, take, drop}
 use Rattle.de9im.specs.declared.answer.Answer.{Answer}
 use Rattle.de9im.specs.declared.refusal.Refusal.the-variants.{Ends}
-use Rattle.frame.specs.Read.{Read, good, bad, _refuses_, _>>_, _>>=_}
+use Rattle.frame.specs.Read.{Read, good, _refuses_, _>>_, _>>=_}
 use Rattle.frame.specs.Words.{byteAt}
 use Rattle.plan.specs.Said.{Form, formOf, saidOf}
 use Rattle.report.specs.Converting.{wroteAs, writtenAs}

@@ -54,8 +54,8 @@ returns-2 c =
     let r = t .before .before in
     let a = r .before .before .before .args in
     let p =
-        as-edge (a .s .now) (now (a .buf)) (a .at) (accepted _ _ _ _ (r .«record» .ensures) (t .enum-told .given .1)) (i .if1 .taken) _
-        (o .other-version .ensures) in
+    as-edge (a .s .now) (now (a .buf)) (a .at) (accepted _ _ _ _ (r .«record» .ensures) (t .enum-told .given .1)) (i .if1 .taken) _
+    (o .other-version .ensures) in
     (g .edge-as .ensures .0 ∙ p .0, g .edge-as .ensures .1 ∙ p .1)
 
 node-as-two-requires : tie.Need-node-as-two-requires
@@ -75,8 +75,8 @@ returns-3 c =
     let r = t .before .before in
     let a = r .before .before .before .args in
     let p =
-        as-two (a .s .now) (now (a .buf)) (a .at) (accepted _ _ _ _ (r .«record» .ensures) (t .enum-told .given .1)) (i .if1 .left)
-        (j .if2 .taken) in
+    as-two (a .s .now) (now (a .buf)) (a .at) (accepted _ _ _ _ (r .«record» .ensures) (t .enum-told .given .1)) (i .if1 .left)
+    (j .if2 .taken) in
     (g .node-as-two .ensures .0 ∙ p .0, g .node-as-two .ensures .1 ∙ p .1)
 
 node-as-one-requires : tie.Need-node-as-one-requires
@@ -96,8 +96,8 @@ returns-4 c =
     let r = t .before .before in
     let a = r .before .before .before .args in
     let p =
-        as-one (a .s .now) (now (a .buf)) (a .at) (accepted _ _ _ _ (r .«record» .ensures) (t .enum-told .given .1)) (i .if1 .left)
-        (j .if2 .left) in
+    as-one (a .s .now) (now (a .buf)) (a .at) (accepted _ _ _ _ (r .«record» .ensures) (t .enum-told .given .1)) (i .if1 .left)
+    (j .if2 .left) in
     (g .node-as-one .ensures .0 ∙ p .0, g .node-as-one .ensures .1 ∙ p .1)
 
 pub convert-record-spec : {M : Type 1} → statement M

@@ -1,6 +1,5 @@
 -- The head, then the label as it stands in the record.
 use borrow.Author.Needs.{needs}
-use native.Mathlib.Omega.{arith}
 use denote.Ref.{now}
 use mathlib.Core.Path.{_∙_, ap}
 use mathlib.Core.List.{List}
@@ -16,8 +15,7 @@ returns c =
     let p = c .before .before in
     let b = p .before .before .before .before .before .before in
     let a = b .args in
-    let e = edge-put (a .s .now) (a .w) (b .pre) in
-    (
+    let e = edge-put (a .s .now) (a .w) (b .pre) in (
       p .put-both .ensures .0 ∙ ap (λ (l : List ℕ). wroteOf (length l) (now (a .buf)) (a .at)) e,
       p .put-both .ensures .1 ∙ ap (λ (l : List ℕ). writtenOf l (now (a .buf)) (a .at)) e,
     )

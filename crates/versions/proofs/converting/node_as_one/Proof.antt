@@ -15,8 +15,7 @@ returns : tie.Need-returns
 returns c =
     let n = c .before in
     let a = n .before .before .before .before .before .args in
-    let e = one-many (a .s .now) _ (n .two-bytes .ensures .0) (c .if1 .taken) in
-    (
+    let e = one-many (a .s .now) _ (n .two-bytes .ensures .0) (omega (arith, c .if1 .taken)) in (
       ap (λ (x : Read (List ℕ)). wroteAs x (now (a .buf)) (a .at)) (sym e),
       ap (λ (x : Read (List ℕ)). writtenAs x (now (a .buf)) (a .at)) (sym e),
     )
@@ -29,8 +28,7 @@ returns-2 c =
     let b = n .before .before .before .before .before in
     let a = b .args in
     let r = n .two-bytes .ensures .0 in
-    let e = one-put (a .s .now) _ r (i .if1 .left) (omega (arith, b .pre, r)) in
-    (
+    let e = one-put (a .s .now) _ r (omega (arith, i .if1 .left)) (omega (arith, b .pre, r)) in (
       p .put-both .ensures .0 ∙ ap (λ (x : Read (List ℕ)). wroteAs x (now (a .buf)) (a .at)) e,
       p .put-both .ensures .1 ∙ ap (λ (x : Read (List ℕ)). writtenAs x (now (a .buf)) (a .at)) e,
     )

@@ -18,8 +18,7 @@ returns c =
     let b = n .before .before .before .before in
     let a = b .args in
     let r = n .wide .ensures .0 in
-    let e = two-put (a .s .now) _ r (omega (arith, b .pre, r)) (omega (arith, b .pre, r)) in
-    (
+    let e = two-put (a .s .now) _ r (omega (arith, b .pre, r)) (omega (arith, b .pre, r)) in (
       p .put-both .ensures .0 ∙ ap (λ (x : Read (List ℕ)). wroteAs x (now (a .buf)) (a .at)) e,
       p .put-both .ensures .1 ∙ ap (λ (x : Read (List ℕ)). writtenAs x (now (a .buf)) (a .at)) e,
     )

@@ -25,8 +25,7 @@ returns-3 c =
     let q = c .before .before in
     let p = q .before .before .before .before in
     let a = p .before .before .before .before .before .before .before .args in
-    let hs = a .head .now in
-    (
+    let hs = a .head .now in (
       both-wrote (now (a .buf)) (a .at) hs (a .tail .now) (omega arith),
       q .put2 .ensures .1 ∙ ap (λ (l : List ℕ). writtenOf hs l (a .at)) (p .put .ensures .1)
           ∙ both-written (now (a .buf)) (a .at) hs (a .tail .now) (omega arith),
