@@ -9,7 +9,8 @@ use Rattle.misonkandi.proofs.conversions.misonkandi_convert_record.Tie 
 
 answer-word-requires : tie.Need-answer-word-requires
 answer-word-requires c κs =
-    let p = answered _ _ _ in
+    let a = c .before .before .before .before .before .before .args in
+    let p = answered (a .bytes .now) (now (a .buffer)) (a .offset) in
     rw (c .before .before .convert-record .ensures .0) (omega (arith, p .few), none-below _ (p .nowhere))
 
 returns : tie.Need-returns
