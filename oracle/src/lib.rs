@@ -43,6 +43,7 @@ mod program_bench;
 mod program_signals;
 mod random;
 mod rule;
+mod rule_convert;
 mod rule_floor;
 mod rule_language;
 mod rule_outline;

@@ -11,6 +11,7 @@ use lib.Seq.{append-snoc}
 use Rattle.de9im.specs.declared.refusal.Refusal.{Refusal}
 use Rattle.de9im.specs.declared.refusal.Refusal.the-variants as R
 use Rattle.ends.specs.declared.«edge_end».EdgeEnd.{EdgeEnd}
+use Rattle.ends.specs.Count.{mostEnds}
 use Rattle.plan.specs.EndBytes.{Ends, endAt, readEnds, endsCall}
 use Rattle.plan.specs.Inner.Gathering.{AllRead}
 use Rattle.frame.specs.Read.{Read, good, bad, _>>=_}
@@ -83,11 +84,11 @@ read-length zero s at es q =
     rw (← g) refl
 read-length (suc n) s at es q = length-by n (endAt s at) (readEnds n s (at + 15)) es (λ fs. read-length n s (at + 15) fs) q
 
--- bytes that are all ends: at most 600, read one after the other
+-- bytes that are all ends: not too many, read one after the other
 pub call-read : (s : List ℕ) (es : List EdgeEnd) → endsCall s ≡ good es
-    → (length s / 15 ≤ 600) × (readEnds (length s / 15) s 0 ≡ good es)
+    → (length s / 15 ≤ mostEnds) × (readEnds (length s / 15) s 0 ≡ good es)
 unfolding endsCall
 call-read s es e =
     let p = passed (not (eqb (length s % 15) 0)) R.Length _ es e .1 in
-    let q = passed (ltb 600 (length s / 15)) R.Ends _ es p in
+    let q = passed (ltb mostEnds (length s / 15)) R.Ends _ es p in
     (ltb-false _ _ (q .0), q .1)

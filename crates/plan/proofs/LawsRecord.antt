@@ -22,6 +22,7 @@ use Rattle.star.specs.declared.pouring.Node.{Node}
 use Rattle.ends.specs.declared.«topology_position».Sides.{Sides}
 use Rattle.star.specs.Calls.{completedStar, pouredStar}
 use Rattle.star.specs.Completing.{missingLeft}
+use Rattle.ends.specs.Count.{mostEnds}
 use Rattle.ends.specs.Ends.{badDir, lineWithSide, faultOf, firstFault, checkedOf}
 use Rattle.ends.specs.Star.{joinedOf}
 use Rattle.plan.specs.EndBytes.{Ends, dirAt, endAt, readEnds, endsCall}
@@ -86,6 +87,14 @@ ends-fine zero s at es q =
     rw (← g) refl
 ends-fine (suc n) s at es q =
     ends-by (endAt s at) (readEnds n s (at + 15)) es (λ e. end-fine s at e) (λ fs p. ends-fine n s (at + 15) fs p) q
+
+-- bytes that were read as ends pass the check that a public star call makes
+pub call-fine : (s : List ℕ) (es : List EdgeEnd) → endsCall s ≡ good es → checkedOf es (length es) ≡ Fine
+unfolding checkedOf
+call-fine s es e =
+    let c = call-read s es e in
+    let m : length es ≡ length s / 15 = read-length (length s / 15) s 0 es (c .1) in
+    rw (le-ltb mostEnds (length es) (omega (arith, c .0)), take-length es) (ends-fine (length s / 15) s 0 es (c .1))
 
 -- what a poured star answers: refusal 9, or the raised numbers
 module _ (ns : List ℕ) (used : ℕ) (n : Node) (es : List EdgeEnd) (d : CellsAnswer) (e : d ≡ pouredStar ns n es) where

@@ -20,6 +20,7 @@ use Rattle.de9im.specs.Answers.{answerPlace, usedOf}
 use Rattle.de9im.specs.Position.{codedOf}
 use Rattle.de9im.specs.Refused.{placeOf}
 use Rattle.star.specs.Completing.{missingLeft}
+use Rattle.ends.specs.Count.{mostEnds}
 use Rattle.ends.specs.Ends.{badDir, lineWithSide}
 use Rattle.ends.specs.Label.{isNone}
 use Rattle.ends.specs.Star.{joinedOf}
@@ -91,7 +92,7 @@ module _ (s : List ℕ) where
   unfolding endsCall
   call-nowhere =
       check-nowhere (not (eqb (length s % 15) 0)) R.Length _ refl
-      (check-nowhere (ltb 600 (length s / 15)) R.Ends _ refl (ends-nowhere (length s / 15) 0))
+      (check-nowhere (ltb mostEnds (length s / 15)) R.Ends _ refl (ends-nowhere (length s / 15) 0))
 
   node-nowhere : readPlace (nodeAt s) ≡ Nowhere
   unfolding nodeAt

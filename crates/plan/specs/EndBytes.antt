@@ -8,6 +8,7 @@ use lib.ListN.{length}
 use Rattle.de9im.specs.declared.refusal.Refusal.the-variants as R
 use Rattle.ends.specs.declared.«edge_end».Dir.{Dir}
 use Rattle.ends.specs.declared.«edge_end».EdgeEnd.{EdgeEnd}
+use Rattle.ends.specs.Count.{mostEnds}
 use Rattle.ends.specs.Ends.{badDir}
 use Rattle.plan.specs.LabelBytes.{labelAt}
 use Rattle.frame.specs.Words.{fourBytesAt, signedOf}
@@ -38,5 +39,5 @@ readEnds (suc n) s at = do
 unfoldable pub endsCall : List ℕ → Ends
 endsCall s = do
   not (eqb (length s % 15) 0) refuses R.Length
-  ltb 600 (length s / 15) refuses R.Ends
+  ltb mostEnds (length s / 15) refuses R.Ends
   readEnds (length s / 15) s 0
