@@ -153,7 +153,9 @@ pub fn with_empty_ones(random: &mut Random, counts: Vec<usize>) -> Vec<usize> {
 
 /// A cut of any of these kinds; the number of pieces is bounded.
 pub fn any_cut(random: &mut Random, total: usize) -> Vec<usize> {
-    let size = random.pick(&[1, 2, 3, 7, 11, 64, 488, 489, 490, 491, 492, 4096, 65_536]);
+    let size = random.pick(&[
+        1, 2, 3, 7, 11, 64, 489, 490, 4096, 9009, 9010, 9011, 9012, 65_536,
+    ]);
     let size = size.max(total / MOST_PIECES + 1);
     let way = random.pick(&[Cut::Each(size), Cut::UpTo(size), Cut::UpTo(2 * size)]);
     let counts = cut(random, total, way);

@@ -56,12 +56,7 @@ fn finish(kept: &Kept, out: &mut [u8]) -> (u32, bool) {
     let (word, left) = in_room(out, |room| {
         linked::finish(&kept.state, &mut room.cells, &mut room.answer)
     });
-    (word, left && same(&kept.state, &state))
-}
-
-fn same(one: &Pieces, other: &Pieces) -> bool {
-    let numbers = |state: &Pieces| (state.used, state.records, state.count, state.stop);
-    numbers(one) == numbers(other) && one.cells == other.cells && one.held == other.held
+    (word, left && kept.state == state)
 }
 
 /// Each piece lies elsewhere, and only while it is pushed.
