@@ -16,3 +16,4 @@ pub mod LawsSmall
 pub mod LawsLong
 pub mod LawsMark
 pub mod LawsGathering
+pub mod LawsParts
