@@ -410,8 +410,8 @@ static size_t write_node(uint8_t *to, unsigned version, unsigned count) {
     return 2 + length;
 }
 
-/* One record converted, with bytes behind it, into a buffer of just the room that it takes and of one byte less, both
- * against a page that nobody may touch. */
+/* One record converted into a buffer of just the room that it takes, into the end of a longer one, and where a byte is
+ * missing; record and buffer stand against a page that nobody may touch. */
 static void converted(const uint8_t *record, size_t count, const uint8_t *other, size_t written, const pages room[2]) {
     uint8_t *bytes = lent(room[0], record, count, 1), *buffer;
     SAME(misonkandi_convert_record(bytes, count, lent(room[1], other, 0, 1) - written, written, 0), written);
@@ -422,8 +422,8 @@ static void converted(const uint8_t *record, size_t count, const uint8_t *other,
     SAME(memcmp(buffer, other, written), 0);
     SAME(buffer[-1], 7);
     memset(buffer - 9, 7, written + 9);
-    refused(misonkandi_convert_record(bytes, count, buffer - 9, written + 9, 10), MISONKANDI_REFUSAL_NO_ROOM, 0);
-    refused(misonkandi_convert_record(bytes, count, buffer - 9, written + 9, (size_t)-1), MISONKANDI_REFUSAL_NO_ROOM, 0);
+    refused(misonkandi_convert_record(bytes, count, buffer, written, 1), MISONKANDI_REFUSAL_NO_ROOM, 0);
+    refused(misonkandi_convert_record(bytes, count, buffer, written, (size_t)-1), MISONKANDI_REFUSAL_NO_ROOM, 0);
     SAME(buffer[0], 7), SAME(buffer[written - 1], 7);
 }
 
