@@ -430,7 +430,7 @@ static void converted(const uint8_t *record, size_t count, const uint8_t *other,
 /* There and back for every count that version 1 has; from 33 on the way back is 5, and 5 comes before 12. */
 static void conversions(void) {
     static uint8_t one[MOST_VERSION_TWO], two[MOST_VERSION_TWO];
-    uint8_t edge[11], other[11], kept[4] = {7, 7, 7, 7};
+    uint8_t edge[MOST_GIVEN], other[11], kept[4] = {7, 7, 7, 7};
     pages room[2];
     unsigned n;
     room[0] = guarded(), room[1] = guarded();
