@@ -5,9 +5,9 @@ use misonkandi::{IntersectionMatrix, MOST_CONVERTED_BYTES, Refusal, convert_reco
 /// Ends around the node, so that no two of the first 32 have one direction: areas of A and lines of B by turns.
 fn ends(count: usize) -> Vec<u8> {
     let end = |k: usize| {
-        let dx = (1 + 7 * k % 32) as i32 * if k % 3 == 0 { -1 } else { 1 };
-        let dy = (32 - 7 * k % 32) as i32 * if k % 5 == 0 { -1 } else { 1 };
-        let label: [u8; 7] = if k % 2 == 0 {
+        let dx = (1 + 7 * k % 32) as i32 * if k.is_multiple_of(3) { -1 } else { 1 };
+        let dy = (32 - 7 * k % 32) as i32 * if k.is_multiple_of(5) { -1 } else { 1 };
+        let label: [u8; 7] = if k.is_multiple_of(2) {
             [1, 2, 1, 3, 0, 0, 0]
         } else {
             [0, 0, 0, 0, 1, 0, 0]
