@@ -233,7 +233,8 @@ static uint32_t guarded_call(int k, const uint8_t *bytes, size_t count, int at_e
     l.buffer = lent(room[4], nothing, l.room, at_end);
     l.corners = (int32_t *)lent(room[5], nothing, sizeof saw, at_end);
     l.answer = (uint64_t *)lent(room[6], nothing, (given == FLOOR ? 2 : 3) * sizeof *l.answer, at_end);
-    l.state = (misonkandi_pieces *)lent(room[7], nothing, sizeof *l.state, at_end);
+    l.state = (misonkandi_pieces *)(at_end ? room[7].start + ROOM - sizeof *l.state : room[7].start);
+    misonkandi_start(l.state, start);
     l.count = count;
     return calls[k].call(&l);
 }
@@ -518,7 +519,7 @@ static void in_two(misonkandi_pieces *state, pages room, const uint8_t *bytes, s
 
 /* A floor cut into two pieces at every place, and into single bytes. */
 static void every_cut(const uint8_t *bytes, size_t count, const pages room[2]) {
-    misonkandi_pieces *state = (misonkandi_pieces *)lent(room[0], bytes, sizeof *state, 1);
+    misonkandi_pieces *state = (misonkandi_pieces *)lent(room[0], NULL, 0, 1) - 1;
     size_t cut;
     same_told(in_one_call(start, bytes, count), one_by_one(start, bytes, count));
     for (cut = 0; cut <= count; cut++) in_two(state, room[1], bytes, cut, count);
@@ -528,7 +529,7 @@ static void every_cut(const uint8_t *bytes, size_t count, const pages room[2]) {
 
 /* A floor with a damaged byte, cut where that byte stands and behind it. */
 static void one_damage(uint8_t *bytes, size_t count, size_t place, uint8_t to, const pages room[2]) {
-    misonkandi_pieces *state = (misonkandi_pieces *)lent(room[0], bytes, sizeof *state, 1);
+    misonkandi_pieces *state = (misonkandi_pieces *)lent(room[0], NULL, 0, 1) - 1;
     uint8_t kept = bytes[place];
     bytes[place] = to;
     same_told(in_one_call(start, bytes, count), one_by_one(start, bytes, count));
@@ -547,17 +548,54 @@ static size_t write_floor(uint8_t to[MOST_FLOOR]) {
     return at + LONG + write_given(EDGE, to + at + LONG);
 }
 
+/* A node of so many lines in one direction, by its bytes, in version 2. */
+static size_t write_lines(uint8_t *to, unsigned count) {
+    static const uint8_t line[MISONKANDI_END_BYTES] = {0, 0, 0, 1, 0, 0, 0, 1, MISONKANDI_LINE, 1, 0, 0, 0, 0, 0};
+    unsigned length = 8 + 15 * count, k;
+    to[0] = (uint8_t)(length >> 8), to[1] = (uint8_t)length, to[2] = 2, to[3] = MISONKANDI_NODE;
+    to[4] = to[5] = MISONKANDI_INSIDE, to[6] = to[7] = 0, to[8] = (uint8_t)(count >> 8), to[9] = (uint8_t)count;
+    for (k = 0; k < count; k++) memcpy(to + 10 + 15 * k, line, sizeof line);
+    return 2 + length;
+}
+
+/* The longest record, and one of an end more than there may be, which is longer than any accepted one: cut about where
+ * each begins and ends, about as far behind as a state holds, and now and then between; and at two places. */
+static void long_floor(const pages room[2]) {
+    static uint8_t bytes[9010 + 9025 + 9010];
+    misonkandi_pieces *state = (misonkandi_pieces *)lent(room[0], NULL, 0, 1) - 1;
+    static const size_t places[] = {9010, 9010 + 9010, 9010 + 9025};
+    size_t at = write_lines(bytes, 600), k, cut;
+    SAME(at, 9010);
+    at += write_lines(bytes + at, 601);
+    at += write_lines(bytes + at, 600);
+    refused(in_one_call(start, bytes, at).word, MISONKANDI_REFUSAL_ENDS, 0);
+    SAME(in_one_call(start, bytes, at).used, 9010);
+    same_told(in_one_call(start, bytes, at), one_by_one(start, bytes, at));
+    for (cut = 0; cut < at; cut += 499) in_two(state, room[1], bytes, cut, at);
+    for (k = 0; k < 3; k++) {
+        for (cut = places[k] - 4; cut < places[k] + 12; cut++) {
+            in_two(state, room[1], bytes, cut, at);
+            misonkandi_start(state, start);
+            pushed(state, room[1], bytes, 0, 9011), pushed(state, room[1], bytes, 9011, cut < 9011 ? 9011 : cut);
+            pushed(state, room[1], bytes, cut < 9011 ? 9011 : cut, at);
+        }
+    }
+    misonkandi_start(state, start);
+    for (cut = 0; cut < at; cut += 5) pushed(state, room[1], bytes, cut, cut + 5 < at ? cut + 5 : at);
+}
+
 /* A state of any bytes: some answer, within what is lent. */
 static void any_state(const uint8_t *bytes, size_t count, const pages room[2]) {
-    static const uint64_t counts[] = {0, 1, 2, 488, 489, 490, 491, 65536, 65537, 1ull << 63, UINT64_MAX};
-    static const uint32_t stops[] = {0, 1, 2, 9, 11, 15, 22, 23, 255, 256, 257, 0x80000000u, 0x80000100u, UINT32_MAX};
+    static const uint64_t counts[] = {0, 1, 2, 488, 9009, 9010, 9011, 9012, 65536, 65537, 1ull << 63, UINT64_MAX};
+    static const uint8_t stops[] = {0, 1, 2, 9, 11, 15, 22, 23, 128, 255};
     enum { COUNTS = sizeof counts / sizeof counts[0], STOPS = sizeof stops / sizeof stops[0] };
-    int k;
+    int k, at;
     for (k = 0; k < 256 * COUNTS * STOPS; k++) {
-        misonkandi_pieces *state = (misonkandi_pieces *)lent(room[0], bytes, sizeof *state, 1);
+        misonkandi_pieces *state = (misonkandi_pieces *)lent(room[0], NULL, 0, 1) - 1;
         uint32_t word;
         memset(state, k % 256, sizeof *state);
-        state->count = counts[k / 256 % COUNTS], state->stop = stops[k / 256 / COUNTS];
+        for (at = 0; at < 8; at++) state->bytes[16 + at] = (uint8_t)(counts[k / 256 % COUNTS] >> 8 * at);
+        state->bytes[24] = stops[k / 256 / COUNTS];
         word = misonkandi_push(state, lent(room[1], bytes, count, 1), count);
         SAME(word == 0 || MISONKANDI_REFUSED(word), 1);
         word = finished(state).word;
@@ -588,8 +626,6 @@ static void floors(void) {
     size_t k, count = write_floor(bytes);
     room[0] = guarded(), room[1] = guarded();
     SAME(sizeof(misonkandi_pieces), MISONKANDI_PIECES_BYTES);
-    SAME(offsetof(misonkandi_pieces, stop), 24), SAME(offsetof(misonkandi_pieces, cells), 28);
-    SAME(offsetof(misonkandi_pieces, held), 37);
     SAME(in_one_call(start, bytes, 500).records, 2), SAME(in_one_call(start, bytes, 500).word, 0);
     refused(in_one_call(start, bytes, count).word, MISONKANDI_REFUSAL_ENDS, 0);
     every_cut(bytes, 500, room), every_cut(bytes, count, room);
@@ -598,6 +634,7 @@ static void floors(void) {
         one_damage(bytes, count, k, bytes[k] ^ 128, room);
     }
     any_state(bytes, 40, room), any_state(bytes, count, room);
+    long_floor(room);
     larger_floors();
     munmap(room[0].start - ROOM, 3 * ROOM), munmap(room[1].start - ROOM, 3 * ROOM);
 }

@@ -387,22 +387,24 @@ uint32_t misonkandi_convert_record(const uint8_t *bytes, size_t count, uint8_t *
 uint32_t misonkandi_floor(uint8_t cells[9], const uint8_t *bytes, size_t count, uint64_t answer[2]);
 
 /* What is kept of a floor that comes in pieces. It is lent to the three calls below and has no pointer in it, so it may
- * be copied and kept, moved or thrown away at any time; a copy goes on by itself. Its fields are the library's own:
- * nobody else needs them. A state that misonkandi_start didn't make, or whose bytes were changed, gets some answer, and
- * nothing is read or written out of bounds. */
+ * be copied and kept, moved or thrown away at any time; a copy goes on by itself. It may lie anywhere: it is bytes.
+ * They are the library's own, nobody else needs them. A state that misonkandi_start didn't make, or whose bytes were
+ * changed, gets some answer, and nothing is read or written out of bounds.
+ *
+ *   0    bytes of the accepted records so far           24  0, or the number of the refusal; 1 while a part waits
+ *   8    how many they are                              25  the nine cells that they leave
+ *   16   bytes behind them that a part of a record has  34  the front of that part, up to 9,011 bytes: one byte more
+ *        so far; these three are of eight bytes, the        than the longest accepted record has
+ *        lowest first
+ */
+#define MISONKANDI_PIECES_BYTES 9045
+
 typedef struct misonkandi_pieces {
-    uint64_t used;     /* bytes of the accepted records so far */
-    uint64_t records;  /* how many they are */
-    uint64_t count;    /* bytes behind them that a part of a record has so far */
-    uint32_t stop;     /* 0, or the number of the refusal; 1 while a part of a record waits for its rest */
-    uint8_t cells[9];  /* what the accepted records leave */
-    uint8_t held[490]; /* the front of that part: one byte more than the longest accepted record has */
+    uint8_t bytes[MISONKANDI_PIECES_BYTES];
 } misonkandi_pieces;
 
-/* sizeof(misonkandi_pieces): 527 bytes of fields, and one that nobody looks at. */
-#define MISONKANDI_PIECES_BYTES 528
-
-/* Nothing has come yet: pours into these cells. Whatever the state was is gone. */
+/* Nothing has come yet: pours into these cells. Whatever the state was is gone: its first 36 bytes are written, and no
+ * call looks at another one before it has written it. */
 void misonkandi_start(misonkandi_pieces *state, const uint8_t cells[9]);
 
 /* The next `count` bytes of the floor, cut anywhere; no bytes are a piece too. 0 while more may come: nothing is

@@ -5,48 +5,23 @@
 //! crosses as its pointer and its count; that of an empty one leads nowhere, and the library doesn't follow it.
 #![allow(dead_code, unused_imports)] // The oracle uses some of it, and so does a build without stars.
 
-use core::mem::offset_of;
-
 /// What the three calls that take a predicate answer where there is no such one. No answer and no refusal equals it.
 pub const NO_SUCH_ROW: u32 = 0xFFFF_FFFF;
 
 /// A refusal is this, plus 256 times its number, plus its place. A word below it is an answer.
 pub const REFUSED: u32 = 1 << 31;
 
-/// What is kept of a floor that comes in pieces, laid out as the header's struct. Numbers alone, so any bytes are one.
+/// What is kept of a floor that comes in pieces: the header's struct, which is bytes alone, so any bytes are one.
 #[repr(C)]
-#[derive(Clone, Copy)]
+#[derive(Clone, Copy, PartialEq, Eq)]
 pub struct Pieces {
-    pub used: u64,
-    pub records: u64,
-    pub count: u64,
-    pub stop: u32,
-    pub cells: [u8; 9],
-    pub held: [u8; 490],
+    bytes: [u8; 9045],
 }
 
 impl Pieces {
     /// Zeros, to be lent to [`start`].
-    pub const BLANK: Pieces = Pieces {
-        used: 0,
-        records: 0,
-        count: 0,
-        stop: 0,
-        cells: [0; 9],
-        held: [0; 490],
-    };
+    pub const BLANK: Pieces = Pieces { bytes: [0; 9045] };
 }
-
-// Where each field lies, as C lays the header's struct out.
-const _: () = {
-    assert!(offset_of!(Pieces, used) == 0);
-    assert!(offset_of!(Pieces, records) == 8);
-    assert!(offset_of!(Pieces, count) == 16);
-    assert!(offset_of!(Pieces, stop) == 24);
-    assert!(offset_of!(Pieces, cells) == 28);
-    assert!(offset_of!(Pieces, held) == 37);
-    assert!(size_of::<Pieces>() == 528);
-};
 
 mod declared {
     use super::Pieces;

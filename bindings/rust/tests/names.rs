@@ -77,23 +77,13 @@ fn inside<'a>(text: &'a str, first: &str) -> Vec<&'a str> {
     lines.filter(|line| !line.is_empty()).collect()
 }
 
-/// A field of C as Rust writes it.
-fn field(line: &str) -> String {
-    let (kind, name) = line.split_once(' ').expect("a type and a name");
-    let kind = kind.trim_start_matches("uint").trim_end_matches("_t");
-    match name.trim_end_matches([']', ';']).split_once('[') {
-        Some((name, count)) => format!("pub {name}: [u{kind}; {count}],"),
-        None => format!("pub {}: u{kind},", name.trim_end_matches(';')),
-    }
-}
-
 #[test]
 fn the_header_s_state_is_the_crate_s() {
     let (header, crate_s) = (header(), read("src/c.rs"));
     let state = inside(&header, "typedef struct misonkandi_pieces {");
-    let state = state.into_iter().map(field).collect::<Vec<_>>();
-    assert_eq!(state, inside(&crate_s, "pub struct Pieces {"));
-    assert_eq!(state.len(), 6);
+    assert_eq!(state, ["uint8_t bytes[MISONKANDI_PIECES_BYTES];"]);
+    let state = inside(&crate_s, "pub struct Pieces {");
+    assert_eq!(state, [format!("bytes: [u8; {PIECES_BYTES}],")]);
 }
 
 /// The value of a name of the header, from its `#define` or its enum. An enum's case without a number follows the last.

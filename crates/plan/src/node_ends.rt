@@ -5,6 +5,7 @@ use crate::end_bytes::end_fault;
 use crate::label_bytes::mark_at;
 use bundles::bundles;
 use bundles::columns::put_end;
+use bundles::marks::join;
 use bundles::square::no_sums;
 use bundles::square::put_square;
 use bundles::square::square_bundles;
@@ -18,7 +19,7 @@ ghost use Prim.Native.Nat.{_+_, _*_, _≤_};
 ghost use lib.ListN.{length};
 ghost use Rattle.bundles.specs.Square.{Sums};
 ghost use Rattle.plan.specs.EndBytes.{readEnds};
-ghost use Rattle.plan.specs.Inner.Gathering.{SquareRead, Wide, ColumnsRead, Gathered};
+ghost use Rattle.plan.specs.Inner.Gathering.{SquareRead, JoinedRead, Wide, ColumnsRead, Gathered};
 
 // Whether all ends were read, or the first refusal; how many bundles there are, as numbers in what was lent.
 pub struct NodeEnds {
@@ -77,6 +78,35 @@ fn read_columns(
         p += 15;
     }
     Checked::Fine
+}
+
+// Whether all ends were read, or the first refusal; all of them joined, as the number of one bundle.
+pub struct JoinedEnds {
+    pub answer: Checked,
+    pub word: u32,
+}
+
+// n ends from a place on as one bundle, directions not compared.
+pub fn join_ends(s: &[u8], at: usize, n: usize) -> JoinedEnds
+    requires { ⌜ at + 15 * n ≤ length (now s) ⌝ }
+    ensures { λ r. ⌜ JoinedRead n (now (s .entry)) at r ⌝ }
+{
+    let mut word: u32 = 0;
+    let mut i: usize = 0;
+    let mut p = at;
+    while i < n {
+        let answer = end_fault(s, p);
+        let Checked::Fine = answer else {
+            return JoinedEnds { answer, word: 0 };
+        };
+        word = join(word, mark_at(s, p + 8));
+        i += 1;
+        p += 15;
+    }
+    JoinedEnds {
+        answer: Checked::Fine,
+        word,
+    }
 }
 
 // n ends put in order, over columns that are lent.

@@ -38,7 +38,7 @@ pub enum Bundled {
 }
 
 // A check's answer, with the label that is joined where nothing is refused.
-fn bundled_as(c: Checked, l: Label) -> Bundled
+pub fn bundled_as(c: Checked, l: Label) -> Bundled
     ensures { λ r. ⌜ r ≡ bundledAs c l ⌝ }
 {
     match c {

@@ -21,7 +21,7 @@ use Rattle.plan.specs.LabelBytes.{sidesAt, labelAt}
 use Rattle.plan.specs.Record.{recordOf}
 use Rattle.frame.specs.Lent.{wroteOf, writtenOf}
 use Rattle.report.specs.Report.{longBytes}
-use Rattle.plan.specs.Said.{nodeAt, nodeBody, nodeOf, saidOf}
+use Rattle.plan.specs.Said.{formOf, edgeOf, nodeAt, nodeBody, nodeOf, saidOf}
 use Rattle.place.specs.Places.{finite, isPlace}
 use Rattle.place.specs.Relate.{relateOf}
 use Rattle.place.specs.Rules.{boxBox, related}
@@ -32,7 +32,7 @@ use Rattle.verdict.specs.declared.Verdict.the-variants.{Open, NoForGood}
 use Rattle.verdict.specs.declared.pattern.Judged.the-variants as J
 use Rattle.verdict.proofs.LawsLoop.{given}
 use Rattle.worked.specs.Example.{Every, none, _and_, cells}
-use Rattle.worked.specs.Examples.{p1-to-p14, printed, edges, collapsing, sixHundred}
+use Rattle.worked.specs.Examples.{p1-to-p14, printed, edges, collapsing, sixHundred, versionTwo}
 
 -- the verdict's two: a bad byte; and by what the letters can still come to
 p7 : Judges (J.Refused (BadByte 2)) (bytes "T*X******") (cells "FFFFFFFF2")
@@ -48,7 +48,7 @@ unfolding checkOf firstBad letterOf every cellLetterOf
 p8-no = given (bytes "FF*FF****") (cells "0FFFFFFF2") false false refl refl refl
 
 pub all-hold : Every p1-to-p14
-unfolding recordOf saidOf nodeOf nodeBody nodeAt pouredStar completedStar readEnds endAt dirAt labelAt sidesAt cellLetterOf
+unfolding recordOf saidOf formOf nodeOf nodeBody nodeAt pouredStar completedStar readEnds endAt dirAt labelAt sidesAt cellLetterOf
     orderOf count onJoined sideJoined halfJoined joinOf insertDir dirsFrom keep startOf walkFrom walkOf any missingLeft filledOf
     pourNode pourLabel pourLabels holds agreeAll letterOf matchesOf checkOf firstBad
     lt eq ofInt finite isPlace boxBox related relateOf bundledOf checkedOf firstFault
@@ -61,13 +61,13 @@ unfolding answersOf lineOf holds agreeAll letterOf cellLetterOf
 printed-holds = refl and none
 
 pub edges-hold : Every edges
-unfolding recordOf saidOf nodeOf nodeBody nodeAt pouredStar completedStar readEnds endAt dirAt labelAt sidesAt cellLetterOf
+unfolding recordOf saidOf formOf nodeOf nodeBody nodeAt pouredStar completedStar readEnds endAt dirAt labelAt sidesAt cellLetterOf
     orderOf count onJoined sideJoined halfJoined joinOf insertDir dirsFrom keep startOf walkFrom walkOf any missingLeft filledOf
     pourNode pourLabel pourLabels wroteOf writtenOf longBytes
 edges-hold = refl and refl and refl and refl and refl and none
 
 pub collapsing-holds : Every collapsing
-unfolding recordOf saidOf nodeOf nodeBody nodeAt pouredStar completedStar readEnds endAt dirAt labelAt sidesAt cellLetterOf
+unfolding recordOf saidOf formOf nodeOf nodeBody nodeAt pouredStar completedStar readEnds endAt dirAt labelAt sidesAt cellLetterOf
     orderOf count onJoined sideJoined halfJoined joinOf insertDir dirsFrom keep startOf walkFrom walkOf any missingLeft filledOf
     pourNode pourLabel pourLabels
 collapsing-holds = refl and refl and none
@@ -75,4 +75,10 @@ collapsing-holds = refl and refl and none
 pub six-hundred-hold : Every sixHundred
 unfolding bundledOf starCall completedStar checkedOf firstFault orderOf count onJoined sideJoined halfJoined joinOf insertDir dirsFrom
     keep startOf walkFrom walkOf any missingLeft filledOf
-six-hundred-hold = refl and refl and (refl, refl) and none
+six-hundred-hold = refl and refl and refl and refl and none
+
+pub version-two-holds : Every versionTwo
+unfolding recordOf saidOf formOf edgeOf nodeOf nodeBody nodeAt pouredStar completedStar readEnds endAt dirAt labelAt sidesAt cellLetterOf
+    orderOf count onJoined sideJoined halfJoined joinOf insertDir dirsFrom keep startOf walkFrom walkOf any missingLeft filledOf
+    pourNode pourLabel pourLabels
+version-two-holds = refl and refl and refl and refl and refl and refl and refl and none

@@ -1,5 +1,5 @@
 -- Document 01: "P1 to P14 stand as one list with a single statement over it". A kind of entry for each kind of question, and what an entry
--- says: an instance of the definition that the operation's contract cites. Request R-11's edges, "Star and bundle calls take 600", too.
+-- says: an instance of the definition that the operation's contract cites. Request R-11's edges are under it too.
 use Prim.Native.Nat.{ℕ, zero, suc}
 use Prim.Native.String.{String}
 use mathlib.Core.Path.{_≡_}
@@ -64,10 +64,12 @@ pub data Example : Type 0 where
   places-give : (first second : Place) (m : String) → Example
   -- the joined label of a bundle call
   bundle-gives : (ends : List EdgeEnd) (l : Label) → Example
+  -- a bundle call, refused
+  bundle-refused : (ends : List EdgeEnd) (r : Refusal) → Example
   -- the completed labels of a star call, in order
   star-gives : (ends : List EdgeEnd) (a b : Position) (ls : List Label) → Example
-  -- a bundle call and a star call, both refused
-  ends-refused : (ends : List EdgeEnd) (a b : Position) (r : Refusal) → Example
+  -- a star call, refused
+  star-refused : (ends : List EdgeEnd) (a b : Position) (r : Refusal) → Example
   -- what the program prints of a matrix
   program-prints : (m : String) (lines : List String) → Example
   -- a report of a matrix written into a buffer at an offset: the bytes used, and what the buffer then holds
@@ -87,10 +89,10 @@ says (pattern-says p m answer) = matchesOf (matrixOf (cells m)) (bytes p) ≡ an
 says (verdict-says p m answer) = Judges answer (bytes p) (cells m)
 says (places-give first second m) = relateOf first second ≡ record { answer = Fine; cells = cells m }
 says (bundle-gives ends l) = bundledOf (slots mostEnds ends) (length ends) ≡ B.Joined l
+says (bundle-refused ends r) = bundledOf (slots mostEnds ends) (length ends) ≡ B.Refused r
 says (star-gives ends a b ls) =
     starCall (slots mostEnds ends) (length ends) a b ≡ record { answer = Fine; labels = padded ls; count = length ls }
-says (ends-refused ends a b r) =
-    (bundledOf (slots mostEnds ends) (length ends) ≡ B.Refused r) × (starCall (slots mostEnds ends) (length ends) a b ≡ refusedStar r)
+says (star-refused ends a b r) = starCall (slots mostEnds ends) (length ends) a b ≡ refusedStar r
 says (program-prints m lines) = answersOf (cells m) ≡ lined lines
 says (report-gives m buf offset used after) = written m buf offset ≡ (Used used, after)
 says (report-refused m buf offset r) = written m buf offset ≡ (Refused r, buf)
