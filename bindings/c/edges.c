@@ -55,6 +55,9 @@ typedef struct {
     size_t count, room; /* of bytes, of the buffer's; of an outline or a shape, the count is of numbers */
 } lendings;
 
+/* Room for the labels of any star. */
+enum { LABELS = MISONKANDI_MOST_ENDS * MISONKANDI_LABEL_BYTES };
+
 typedef uint32_t call(const lendings *l);
 
 static uint32_t from_text(const lendings *l) { return misonkandi_from_text(l->cells, l->bytes, l->count); }
@@ -74,7 +77,7 @@ static uint32_t relate(const lendings *l) {
 }
 static uint32_t point_in_outline(const lendings *l) { return misonkandi_point_in_outline(l->xy, l->count, 1, 0); }
 static uint32_t bundle(const lendings *l) { return misonkandi_bundle(l->bytes, l->count, l->text); }
-static uint32_t star(const lendings *l) { return misonkandi_star(l->bytes, l->count, 1, 0, l->labels); }
+static uint32_t star(const lendings *l) { return misonkandi_star(l->bytes, l->count, 1, 0, l->labels, LABELS); }
 static uint32_t record(const lendings *l) { return misonkandi_record(l->cells, l->bytes, l->count); }
 static uint32_t whole_floor(const lendings *l) {
     return misonkandi_floor(l->cells, l->bytes, l->count, l->answer);
@@ -97,18 +100,24 @@ static uint32_t convert(const lendings *l) {
 }
 /* The long form is written, at the end of the labels' bytes. */
 static uint32_t convert_short(const lendings *l) {
-    return misonkandi_convert_report(l->bytes, l->count, l->labels, 224, 224 - MISONKANDI_REPORT_BYTES);
+    return misonkandi_convert_report(l->bytes, l->count, l->labels, LABELS, LABELS - MISONKANDI_REPORT_BYTES);
+}
+/* A node grows by a byte, an edge by none; written at the end of the buffer. */
+static uint32_t convert_record(const lendings *l) {
+    size_t offset = l->room > l->count ? l->room - l->count - 1 : l->room;
+    return misonkandi_convert_record(l->bytes, l->count, l->buffer, l->room, offset);
 }
 static uint32_t read_wkt(const lendings *l) { return misonkandi_read_wkt(l->bytes, l->count, l->corners, l->answer); }
 static uint32_t write_wkt(const lendings *l) {
     return misonkandi_write_wkt(MISONKANDI_SHAPE_POLYGON, l->xy, l->count, l->buffer, l->room, 0);
 }
 
-/* The bytes that a call is given: a text, a predicate's name, ends, a record of a node or of an edge, a floor of both,
- * a shape's text, a report, long or short. Or the numbers of an outline or of a shape. */
+/* The bytes that a call is given: a text, a predicate's name, ends, as many as a call takes, a record of a node, of as many
+ * ends as a record has, or of an edge, a floor of both, a shape's text, a report, long or short. Or the numbers of an outline
+ * or of a shape. */
 enum { NO_ROW = 8388607 }; /* MISONKANDI_NO_SUCH_ROW, read as a refusal */
-enum given { TEXT, NAME, ENDS, NODE, EDGE, FLOOR, OUTLINE, SHAPE, WKT, REPORT, SHORT_REPORT };
-enum { MOST_GIVEN = MISONKANDI_MOST_WKT_BYTES };
+enum given { TEXT, NAME, ENDS, MOST_ENDS, NODE, PILLAR, EDGE, FLOOR, OUTLINE, SHAPE, WKT, REPORT, SHORT_REPORT };
+enum { MOST_GIVEN = MISONKANDI_MOST_RECORD_BYTES };
 
 static const struct {
     const char *name;
@@ -132,8 +141,11 @@ static const struct {
     {"relate_places", relate, TEXT, 0, 1},
     {"point_in_outline", point_in_outline, OUTLINE, 16, 0},
     {"bundle", bundle, ENDS, 0, 0},
+    {"bundle, 600 ends", bundle, MOST_ENDS, 0, 0},
     {"star", star, ENDS, 0, 0},
+    {"star, 600 ends", star, MOST_ENDS, 0, 0},
     {"record, a node", record, NODE, 1, 1},
+    {"record, 600 ends", record, PILLAR, 1, 1},
     {"record, an edge", record, EDGE, 1, 1},
     {"floor", whole_floor, FLOOR, 0, 1},
     {"start", begin, FLOOR, 0, 0},
@@ -145,6 +157,8 @@ static const struct {
     {"write_short", write_short, SHORT_REPORT, 12, 0},
     {"convert", convert, REPORT, 1, 0},
     {"convert, short", convert_short, SHORT_REPORT, 1, 0},
+    {"convert_record", convert_record, NODE, 1, 0},
+    {"convert_record, an edge", convert_record, EDGE, 1, 0},
     {"read_wkt", read_wkt, WKT, 19, 0},
     {"write_wkt", write_wkt, SHAPE, 16, 0},
 };
@@ -159,6 +173,16 @@ static void write_ends(uint8_t *to) {
         to[3] = (uint8_t)(1 + 7 * k % 32);
         to[7] = (uint8_t)(32 - 7 * k % 32);
         memcpy(to + 8, labels[k % 2], 7);
+    }
+}
+
+/* 600 ends in near-equal directions, which only the product tells apart. */
+static void write_most_ends(uint8_t *to) {
+    static const uint8_t first[15] = {119, 53, 147, 0, 59, 154, 202, 0, MISONKANDI_AREA, 2, 1, 3, 2, 3, 1};
+    int k;
+    for (k = 0; k < MISONKANDI_MOST_ENDS; k++, to += MISONKANDI_END_BYTES) {
+        memcpy(to, first, MISONKANDI_END_BYTES);
+        to[3] = (uint8_t)(37 * k), to[7] = (uint8_t)(91 * k / 3);
     }
 }
 
@@ -192,10 +216,13 @@ static size_t write_longest(uint8_t to[MOST_GIVEN]) {
 static size_t write_given(enum given given, uint8_t to[MOST_GIVEN]) {
     static const uint8_t node[9] = {1, 231, 1, MISONKANDI_NODE, 2, 3, 1, 0, 32};
     static const uint8_t edge[11] = {0, 9, 1, MISONKANDI_EDGE, MISONKANDI_AREA, 2, 1, 3, 2, 3, 1};
+    static const uint8_t pillar[10] = {35, 48, 2, MISONKANDI_NODE, 2, 3, 1, 0, 2, 88};
     switch (given) {
     case TEXT: memcpy(to, "210F21012", 9); return 9;
     case NAME: memcpy(to, "contains_properly", 17); return 17;
     case ENDS: write_ends(to); return 480;
+    case MOST_ENDS: write_most_ends(to); return 9000;
+    case PILLAR: memcpy(to, pillar, 10); write_most_ends(to + 10); return 9010;
     case NODE: memcpy(to, node, 9); write_ends(to + 9); return 489;
     case EDGE: memcpy(to, edge, 11); return 11;
     case FLOOR: memcpy(to, node, 9); write_ends(to + 9); memcpy(to + 489, edge, 11); return 500;
@@ -217,12 +244,12 @@ static uint32_t guarded_call(int k, const uint8_t *bytes, size_t count, int at_e
     enum given given = calls[k].given;
     lendings l;
     l.cells = lent(room[0], start, 9, at_end);
-    l.text = lent(room[1], nothing, given == ENDS ? 7 : 9, at_end);
-    l.labels = lent(room[2], nothing, 224, at_end);
+    l.text = lent(room[1], nothing, given == ENDS || given == MOST_ENDS ? 7 : 9, at_end);
+    l.labels = lent(room[2], nothing, LABELS, at_end);
     if (given == OUTLINE || given == SHAPE)
         l.xy = (const int32_t *)lent(room[3], numbers_of(given), count * sizeof saw[0], at_end);
     else l.bytes = lent(room[3], bytes, count, at_end);
-    l.room = given == SHAPE ? MISONKANDI_MOST_WKT_BYTES : count;
+    l.room = given == SHAPE ? MISONKANDI_MOST_WKT_BYTES : calls[k].call == convert_record ? count + 1 : count;
     l.buffer = lent(room[4], nothing, l.room, at_end);
     l.corners = (int32_t *)lent(room[5], nothing, sizeof saw, at_end);
     l.answer = (uint64_t *)lent(room[6], nothing, (given == FLOOR ? 2 : 3) * sizeof *l.answer, at_end);
@@ -253,7 +280,7 @@ static void all_counts(void) {
 static void nulls(void) {
     int k;
     for (k = 0; k < CALLS; k++) {
-        uint8_t cells[9] = {9, 8, 7, 6, 5, 4, 255, 0, 3}, before[9], text[9], labels[224];
+        uint8_t cells[9] = {9, 8, 7, 6, 5, 4, 255, 0, 3}, before[9], text[9], labels[LABELS];
         int32_t corners[MOST_NUMBERS];
         uint64_t answer[3];
         misonkandi_pieces state;
@@ -288,14 +315,14 @@ static void numbers(void) {
         "covers",   "contains_properly", "touches", "crosses",  "overlaps",
     };
     static const struct { int byte; uint8_t to; unsigned number; } damages[] = {
-        {0, 255, MISONKANDI_REFUSAL_SHORT},         {2, 2, MISONKANDI_REFUSAL_VERSION},
+        {0, 255, MISONKANDI_REFUSAL_SHORT},         {2, 3, MISONKANDI_REFUSAL_VERSION},
         {3, 3, MISONKANDI_REFUSAL_KIND},            {1, 0, MISONKANDI_REFUSAL_LENGTH},
         {8, 33, MISONKANDI_REFUSAL_ENDS},           {4, 0, MISONKANDI_REFUSAL_POSITION_CODE},
         {7, 4, MISONKANDI_REFUSAL_POSITION_CODE},   {17, 2, MISONKANDI_REFUSAL_LABEL_KIND},
         {17, 0, MISONKANDI_REFUSAL_LABEL_KIND},     {9, 128, MISONKANDI_REFUSAL_DIRECTION},
         {19, 0, MISONKANDI_REFUSAL_MISSING_LEFT},
     };
-    uint8_t cells[9] = MISONKANDI_START, bytes[MOST_GIVEN], labels[224];
+    uint8_t cells[9] = MISONKANDI_START, bytes[601 * MISONKANDI_END_BYTES], labels[LABELS];
     size_t k;
     for (k = 0; k < sizeof damages / sizeof damages[0]; k++) {
         size_t whole = write_given(NODE, bytes);
@@ -313,11 +340,17 @@ static void numbers(void) {
     refused(misonkandi_set(cells, 4, 0, 0), MISONKANDI_REFUSAL_POSITION_CODE, 0);
 
     write_given(ENDS, bytes);
-    refused(misonkandi_star(bytes, 14, 4, 0, labels), MISONKANDI_REFUSAL_LENGTH, 0);
-    refused(misonkandi_star(bytes, 33 * 15, 4, 0, labels), MISONKANDI_REFUSAL_ENDS, 0);
+    memset(labels, 9, LABELS);
+    refused(misonkandi_star(bytes, 30, 0, 0, labels, 13), MISONKANDI_REFUSAL_NO_ROOM, 0);
+    refused(misonkandi_star(bytes, 30, 0, 0, NULL, 0), MISONKANDI_REFUSAL_NO_ROOM, 0);
+    SAME(labels[0], 9);
+    SAME(misonkandi_star(bytes, 30, 0, 0, labels, 14), 2);
+    SAME(labels[13] == 9, 0), SAME(labels[14], 9);
+    refused(misonkandi_star(bytes, 14, 4, 0, labels, 0), MISONKANDI_REFUSAL_LENGTH, 0);
+    refused(misonkandi_star(bytes, 601 * 15, 4, 0, labels, 0), MISONKANDI_REFUSAL_ENDS, 0);
     bytes[8] = 2;
-    refused(misonkandi_star(bytes, 15, 0, 4, labels), MISONKANDI_REFUSAL_POSITION_CODE, 0);
-    refused(misonkandi_star(bytes, 15, 0, 0, labels), MISONKANDI_REFUSAL_LABEL_KIND, 0);
+    refused(misonkandi_star(bytes, 15, 0, 4, labels, 0), MISONKANDI_REFUSAL_POSITION_CODE, 0);
+    refused(misonkandi_star(bytes, 15, 0, 0, labels, 0), MISONKANDI_REFUSAL_LABEL_KIND, 0);
 
     for (k = 0; k < MISONKANDI_ROWS; k++) SAME(misonkandi_predicate_named(bytes_of(names[k]), strlen(names[k])), k);
     SAME(misonkandi_predicate_named(bytes_of("touch"), 5), MISONKANDI_NO_SUCH_ROW);
@@ -382,6 +415,71 @@ static void reports(void) {
         for (k = 0; k < sizeof large / sizeof large[0]; k++)
             one_offset(REPORT, room, large[k]), one_offset(SHORT_REPORT, room, large[k]);
     }
+}
+
+/* ---- Records converted ---- */
+
+enum { MOST_VERSION_TWO = 2 + 8 + 15 * 601 };
+
+/* A node of so many lines, in 97 directions, by its bytes: the count in one byte or in two. */
+static size_t write_node(uint8_t *to, unsigned version, unsigned count) {
+    unsigned base = version == 1 ? 7 : 8, length = base + 15 * count, k;
+    memset(to, 0, 2 + length);
+    to[0] = (uint8_t)(length >> 8), to[1] = (uint8_t)length, to[2] = (uint8_t)version, to[3] = MISONKANDI_NODE;
+    to[4] = MISONKANDI_INSIDE, to[5] = MISONKANDI_ON_BOUNDARY, to[7] = MISONKANDI_OUTSIDE;
+    if (version == 2) to[8] = (uint8_t)(count >> 8);
+    to[1 + base] = (uint8_t)count;
+    for (k = 0; k < count; k++) {
+        uint8_t *end = to + 2 + base + 15 * k;
+        end[3] = (uint8_t)(1 + 31 * k % 97), end[7] = (uint8_t)(97 - 31 * k % 97);
+        end[9] = (uint8_t)(1 + k % 3), end[12] = (uint8_t)(1 + k % 2);
+    }
+    return 2 + length;
+}
+
+/* One record converted into a buffer of just the room that it takes, into the end of a longer one, and where a byte is
+ * missing; record and buffer stand against a page that nobody may touch. */
+static void converted(const uint8_t *record, size_t count, const uint8_t *other, size_t written, const pages room[2]) {
+    uint8_t *bytes = lent(room[0], record, count, 1), *buffer;
+    SAME(misonkandi_convert_record(bytes, count, lent(room[1], other, 0, 1) - written, written, 0), written);
+    buffer = room[1].start + ROOM - written;
+    SAME(memcmp(buffer, other, written), 0);
+    memset(buffer - 9, 7, written + 9);
+    SAME(misonkandi_convert_record(bytes, count, buffer - 9, written + 9, 9), written);
+    SAME(memcmp(buffer, other, written), 0);
+    SAME(buffer[-1], 7);
+    memset(buffer - 9, 7, written + 9);
+    refused(misonkandi_convert_record(bytes, count, buffer, written, 1), MISONKANDI_REFUSAL_NO_ROOM, 0);
+    refused(misonkandi_convert_record(bytes, count, buffer, written, (size_t)-1), MISONKANDI_REFUSAL_NO_ROOM, 0);
+    SAME(buffer[0], 7), SAME(buffer[written - 1], 7);
+}
+
+/* There and back for every count that version 1 has; from 33 on the way back is 5, and 5 comes before 12. */
+static void conversions(void) {
+    static uint8_t one[MOST_VERSION_TWO], two[MOST_VERSION_TWO];
+    uint8_t edge[MOST_GIVEN], other[11], kept[4] = {7, 7, 7, 7};
+    pages room[2];
+    unsigned n;
+    room[0] = guarded(), room[1] = guarded();
+    for (n = 0; n <= 601; n++) {
+        uint8_t a[9] = MISONKANDI_START, b[9] = MISONKANDI_START;
+        size_t first = n <= 33 ? write_node(one, 1, n) : 0, second = write_node(two, 2, n);
+        if (n <= 32) {
+            converted(one, first, two, second, room), converted(two, second, one, first, room);
+            SAME(misonkandi_record(a, one, first), first), SAME(misonkandi_record(b, two, second), second);
+            SAME(memcmp(a, b, 9), 0);
+            continue;
+        }
+        if (n == 33) refused(misonkandi_convert_record(one, first, kept, 4, 0), MISONKANDI_REFUSAL_ENDS, 0);
+        if (n <= 600) SAME(misonkandi_record(b, two, second), second);
+        refused(misonkandi_convert_record(two, second, kept, 4, 5), MISONKANDI_REFUSAL_ENDS, 0);
+    }
+    SAME(kept[0], 7), SAME(kept[3], 7);
+    write_given(EDGE, edge), memcpy(other, edge, 11), other[2] = 2;
+    converted(edge, 11, other, 11, room), converted(other, 11, edge, 11, room);
+    SAME(write_node(two, 2, 32), MISONKANDI_MOST_CONVERTED_BYTES);
+    SAME(write_node(two, 2, 600), MISONKANDI_MOST_RECORD_BYTES);
+    munmap(room[0].start - ROOM, 3 * ROOM), munmap(room[1].start - ROOM, 3 * ROOM);
 }
 
 /* ---- Floors ---- */
@@ -749,7 +847,7 @@ static void shapes(void) {
 
 /* All that a call is lent, at its full length. */
 static lendings all_lent(int k) {
-    static uint8_t cells[9], text[9], labels[224], bytes[MOST_GIVEN], buffer[MOST_GIVEN];
+    static uint8_t cells[9], text[9], labels[LABELS], bytes[MOST_GIVEN], buffer[MOST_GIVEN];
     static int32_t corners[MOST_NUMBERS];
     static uint64_t answer[3];
     static misonkandi_pieces state;
@@ -840,6 +938,7 @@ int main(void) {
     nulls();
     numbers();
     reports();
+    conversions();
     floors();
     outlines();
     shapes();

@@ -305,22 +305,25 @@ uint32_t misonkandi_write_wkt(uint32_t kind, const int32_t *xy, size_t numbers, 
  *   - Then every position still none becomes Outside if any line bundle of the star is OnBoundary for that geometry;
  *     else the node's area position, or Outside if that is none (the geometry is no area). A line's label has no sides.
  *
- * Both calls check as a record does: 4 if the bytes are no whole ends; 5; for a star 6, an area position above 3; each
- * end in turn 8, its label's kind 7, its codes 6, its sides 7; last, for a star, 9.
+ * Both calls check as a record does: 4 if the bytes are no whole ends; 5, more than 600; for a star 6, an area position
+ * above 3; each end in turn 8, its label's kind 7, its codes 6, its sides 7; then, for a star, 9, and last 12.
  */
 #define MISONKANDI_LABEL_BYTES 7
 #define MISONKANDI_END_BYTES 15
-#define MISONKANDI_MOST_ENDS 32
+/* The most ends that both calls take, and a record of version 2. One of version 1 has at most 32. */
+#define MISONKANDI_MOST_ENDS 600
 
 enum misonkandi_label_kinds { MISONKANDI_LINE = 0, MISONKANDI_AREA = 1 };
 
 /* Joins all ends into one label, whatever their directions: 0 and the label written, or a refusal. */
 uint32_t misonkandi_bundle(const uint8_t *ends, size_t count, uint8_t label[7]);
 
-/* The completed labels of the star of these ends, in order: how many (0 to 32), with seven bytes written for each and
- * zeros after them up to 32 * 7; or a refusal. The area positions are the node's against A's and B's area, none for a
- * geometry that is no area. */
-uint32_t misonkandi_star(const uint8_t *ends, size_t count, uint32_t area_a, uint32_t area_b, uint8_t labels[224]);
+/* The completed labels of the star of these ends, in order: how many (0 to 600), with seven bytes for each in the front of
+ * the buffer and every other byte as it was; or a refusal, and no byte written. There are never more labels than ends; 12 if
+ * fewer than 7 bytes a label are lent. The area positions are the node's against A's and B's area, none for a geometry that
+ * is no area. */
+uint32_t misonkandi_star(const uint8_t *ends, size_t count, uint32_t area_a, uint32_t area_b, uint8_t *labels,
+                         size_t room);
 
 /* ---- Plan records ----
  *
@@ -346,9 +349,9 @@ uint32_t misonkandi_star(const uint8_t *ends, size_t count, uint32_t area_a, uin
  * positions to 0, and each completed label of its star is poured. A label raises the cell of its two ons to 1 and, if
  * it is an area's, that of its two lefts and that of its two rights to 2. An isolated edge's label is poured as it is.
  *
- * Checked in this order: 1; a length below 2 is 4; 2; 3; a length below 7 (node; 8 in version 2) or not 9 (edge) is 4; 5,
- * above 32 ends (600 in version 2); a length not 7 + 15n (8 + 15n) is 4; the node's four positions 6; each end in turn 8,
- * its label's kind 7, its codes 6, its sides 7; last 9. An edge's label: kind 7, codes 6, sides 7.
+ * Checked in this order: 1; a length below 2 is 4; 2; 3; a length below 7 (a node's; 8 in version 2) or not 9 (an
+ * edge's) is 4; 5, above 32 ends (600 in version 2); a length not 7 + 15n (8 + 15n) is 4; the node's four positions 6;
+ * each end in turn 8, its label's kind 7, its codes 6, its sides 7; last 9. An edge's label: kind 7, codes 6, sides 7.
  */
 enum misonkandi_record_kinds { MISONKANDI_NODE = 1, MISONKANDI_EDGE = 2 };
 
@@ -362,12 +365,12 @@ uint32_t misonkandi_record(uint8_t cells[9], const uint8_t *bytes, size_t count)
 /* The most bytes that a converted record has: of 32 ends in version 2, 2 + 8 + 15 * 32. */
 #define MISONKANDI_MOST_CONVERTED_BYTES 490
 
-/* Reads a record of either version and writes it in the other one into a buffer of `room` bytes from `offset` on: the bytes
- * written, every other byte as it was. Those are one more than it has for a node of version 1, one less for a node of
- * version 2, 11 for an edge. Or a refusal and no byte written: the record's own, 1 to 9; then 5 for a node of version 2 with
- * more than 32 ends; then 12 if the offset lies beyond the buffer or fewer bytes follow it than are written. Bytes after
- * the record don't matter. What was written pours the same into every matrix, and converting it back gives the record's
- * bytes again. */
+/* Reads a record of either version and writes it in the other one into a buffer of `room` bytes from `offset` on: the
+ * bytes written, every other byte as it was. Those are one more than the record has for a node of version 1, one less
+ * for a node of version 2, 11 for an edge. Or a refusal and no byte written: the record's own, 1 to 9; then 5 for a
+ * node of version 2 with more than 32 ends; then 12 if the offset lies beyond the buffer or fewer bytes follow it than
+ * are written. Bytes after the record don't matter. What was written pours the same into every matrix, and converting
+ * it back gives the record's bytes again. */
 uint32_t misonkandi_convert_record(const uint8_t *bytes, size_t count, uint8_t *buffer, size_t room, size_t offset);
 
 /* ---- Floors ----
