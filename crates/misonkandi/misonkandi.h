@@ -65,10 +65,10 @@ extern "C" {
 
 enum misonkandi_refusals {
     MISONKANDI_REFUSAL_SHORT = 1,           /* fewer bytes than the length field needs or promises */
-    MISONKANDI_REFUSAL_VERSION = 2,         /* version not 1; of a report neither 1 nor 2 */
+    MISONKANDI_REFUSAL_VERSION = 2,         /* version neither 1 nor 2 */
     MISONKANDI_REFUSAL_KIND = 3,            /* record kind not 1 or 2 */
-    MISONKANDI_REFUSAL_LENGTH = 4,          /* length wrong for its kind or a report's version; ends not whole */
-    MISONKANDI_REFUSAL_ENDS = 5,            /* more than 32 ends */
+    MISONKANDI_REFUSAL_LENGTH = 4,          /* length wrong for its kind or its version; ends not whole */
+    MISONKANDI_REFUSAL_ENDS = 5,            /* more ends than the version takes, 32 or 600; than a call, 600 */
     MISONKANDI_REFUSAL_POSITION_CODE = 6,   /* position code above 3, or none where a node lies */
     MISONKANDI_REFUSAL_LABEL_KIND = 7,      /* label kind above 1, or a line label with a side */
     MISONKANDI_REFUSAL_DIRECTION = 8,       /* direction 0,0 or a part beyond 2,000,000,000 in size */
@@ -326,31 +326,49 @@ uint32_t misonkandi_star(const uint8_t *ends, size_t count, uint32_t area_a, uin
  *
  * A record is a node with the ends at it, or an edge that meets no node.
  *
- *   A node:                                                      An isolated edge:
+ *   A node of version 1:                                         An isolated edge:
  *   0, 1  length: how many bytes follow, high byte first, 7+15n   0, 1     length, 9
- *   2     version, 1                                              2        version, 1
+ *   2     version, 1                                              2        version, 1 or 2
  *   3     kind, 1                                                 3        kind, 2
  *   4, 5  the node's position against A and B, not none           4 to 10  a label
  *   6, 7  its position against A's and B's area, none for no area
  *   8     n, how many ends follow: 0 to 32
  *   9..   n ends, in any order
  *
+ *   A node of version 2 has its count in two bytes:
+ *   0, 1  length, 8+15n
+ *   2     version, 2
+ *   3..7  as above
+ *   8, 9  n, high byte first: 0 to 600
+ *   10..  n ends, in any order
+ *
  * Pouring it raises cells, each to at least a dimension; a none raises nothing. A node raises the cell of its two
  * positions to 0, and each completed label of its star is poured. A label raises the cell of its two ons to 1 and, if
  * it is an area's, that of its two lefts and that of its two rights to 2. An isolated edge's label is poured as it is.
  *
- * Checked in this order: 1; a length below 2 is 4; 2; 3; a length below 7 (node) or not 9 (edge) is 4; 5; a length not
- * 7 + 15n is 4; the node's four positions 6; each end in turn 8, its label's kind 7, its codes 6, its sides 7; last 9.
- * An edge's label: kind 7, codes 6, sides 7.
+ * Checked in this order: 1; a length below 2 is 4; 2; 3; a length below 7 (node; 8 in version 2) or not 9 (edge) is 4; 5,
+ * above 32 ends (600 in version 2); a length not 7 + 15n (8 + 15n) is 4; the node's four positions 6; each end in turn 8,
+ * its label's kind 7, its codes 6, its sides 7; last 9. An edge's label: kind 7, codes 6, sides 7.
  */
 enum misonkandi_record_kinds { MISONKANDI_NODE = 1, MISONKANDI_EDGE = 2 };
 
-/* The most bytes that an accepted record has: 2 + 7 + 15 * 32. */
-#define MISONKANDI_MOST_RECORD_BYTES 489
+/* The most bytes that an accepted record has: 2 + 8 + 15 * 600. One of version 1 has at most 2 + 7 + 15 * 32, 489. */
+#define MISONKANDI_MOST_RECORD_BYTES 9010
 
 /* Pours one record into the cells: the bytes that it used, 2 + its length, or refusal 1 to 9. Bytes after it don't
  * matter, so the next record may stand there. */
 uint32_t misonkandi_record(uint8_t cells[9], const uint8_t *bytes, size_t count);
+
+/* The most bytes that a converted record has: of 32 ends in version 2, 2 + 8 + 15 * 32. */
+#define MISONKANDI_MOST_CONVERTED_BYTES 490
+
+/* Reads a record of either version and writes it in the other one into a buffer of `room` bytes from `offset` on: the bytes
+ * written, every other byte as it was. Those are one more than it has for a node of version 1, one less for a node of
+ * version 2, 11 for an edge. Or a refusal and no byte written: the record's own, 1 to 9; then 5 for a node of version 2 with
+ * more than 32 ends; then 12 if the offset lies beyond the buffer or fewer bytes follow it than are written. Bytes after
+ * the record don't matter. What was written pours the same into every matrix, and converting it back gives the record's
+ * bytes again. */
+uint32_t misonkandi_convert_record(const uint8_t *bytes, size_t count, uint8_t *buffer, size_t room, size_t offset);
 
 /* ---- Floors ----
  *

@@ -366,10 +366,14 @@ pub fn write_lines(lines: &mut String, calls: &[PlanCall]) -> Vec<Met> {
     met
 }
 
-/// The lines must have each number that each call can give.
+/// The lines must have each number that each call can give. No line has room for the 601 ends that a call refuses with 5;
+/// `compare` has them.
 pub fn check_met(met: &[Met]) {
     for (op, numbers) in REACHABLE {
-        let all = numbers.iter().all(|number| met.contains(&(op, *number)));
+        let too_long = |number| number == 5 && matches!(op, PlanOp::Bundle | PlanOp::Star);
+        let all = numbers
+            .iter()
+            .all(|number| too_long(*number) || met.contains(&(op, *number)));
         assert!(all, "{}: a refusal isn't in the sample", op.name());
     }
 }

@@ -108,6 +108,13 @@ mod declared {
             room: usize,
             offset: usize,
         ) -> u32;
+        pub fn misonkandi_convert_record(
+            bytes: *const u8,
+            count: usize,
+            buffer: *mut u8,
+            room: usize,
+            offset: usize,
+        ) -> u32;
         pub fn misonkandi_point_in_outline(xy: *const i32, numbers: usize, x: i32, y: i32) -> u32;
         pub fn misonkandi_read_wkt(
             text: *const u8,
@@ -215,6 +222,13 @@ pub fn convert_report(bytes: &[u8], buffer: &mut [u8], offset: usize) -> u32 {
     // SAFETY: each pointer and count are those of one slice. The bytes are lent to be read until the call ends, the
     // buffer is lent to nobody else until then, and so lies elsewhere.
     unsafe { declared::misonkandi_convert_report(bytes.as_ptr(), bytes.len(), start, room, offset) }
+}
+
+pub fn convert_record(bytes: &[u8], buffer: &mut [u8], offset: usize) -> u32 {
+    let (start, room) = (buffer.as_mut_ptr(), buffer.len());
+    // SAFETY: each pointer and count are those of one slice. The bytes are lent to be read until the call ends, the
+    // buffer is lent to nobody else until then, and so lies elsewhere.
+    unsafe { declared::misonkandi_convert_record(bytes.as_ptr(), bytes.len(), start, room, offset) }
 }
 
 pub fn point_in_outline(xy: &[i32], x: i32, y: i32) -> u32 {

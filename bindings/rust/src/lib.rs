@@ -39,6 +39,7 @@ extern crate alloc;
 
 #[allow(unsafe_code)]
 mod c;
+mod conversion;
 mod corners;
 mod floor;
 mod matrix;
@@ -53,6 +54,7 @@ mod shape;
 mod star;
 mod verdict;
 
+pub use conversion::{MOST_CONVERTED_BYTES, convert_record};
 pub use corners::MOST_CORNERS;
 pub use floor::{Floor, PIECES_BYTES, Pieces, floor};
 pub use matrix::IntersectionMatrix;

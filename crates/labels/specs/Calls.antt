@@ -1,7 +1,7 @@
 -- Document 01: "Public bundle and star calls take ends and check count, directions, sides and 9 as a record does, in its order", and
 -- request R-11: "Star and bundle calls take 600". A star's labels go into the front of a lent buffer and every other byte stays; last comes
 -- 12, where they don't fit.
-use Prim.Native.Nat.{ℕ, _/_, _%_}
+use Prim.Native.Nat.{ℕ, _/_, _%_, _≤_}
 use mathlib.Core.Path.{_≡_}
 use mathlib.Core.Bool.{cond}
 use mathlib.Core.List.{List, _++_}
@@ -60,3 +60,4 @@ frontOr (Refused r) bs buf = buf
 pub record StarPut (s : Labeled) (buf : List ℕ) (r : LabelsPut) (after : List ℕ) : Type 0 where
   pub put : r ≡ putAs (starChecked s buf) (s .count)
   pub bytes : after ≡ frontOr (starChecked s buf) (shownLabels s) buf
+  pub few : r .count ≤ mostEnds

@@ -74,7 +74,7 @@ fn star_over(
     words: &mut [u32],
     labels: &mut [u8],
 ) -> LabelsPut
-    requires { ⌜ (15 * n ≡ length (now ends)) × (n ≤ 600) × (n ≤ length (now words)) × (4 ≤ length (now words)) ⌝ }
+    requires { ⌜ (15 * n ≡ length (now ends)) × (n ≤ length (now words)) × (4 ≤ length (now words)) × (length (now words) ≤ 600) ⌝ }
     ensures { λ r. ⌜ StarPut (starOn (endsCall (now (ends .entry))) p q) (now (labels .entry)) r (now (labels .exit)) ⌝ }
 {
     let read = node_ends(ends, 0, n, words);

@@ -5,6 +5,7 @@ pub mod LawsEnds
 pub mod LawsRecord
 pub mod LawsRecordOrder
 pub mod LawsSaid
+pub mod LawsMoved
 pub mod LawsAfter
 pub mod LawsNumbers
 pub mod LawsPart

@@ -20,7 +20,7 @@ returns c =
     let b = c .before .before .before .before .before .before .before .before .before .before in
     let s = b .args .ends .now in
     let g = c .before .enum-told2 .given in
-    let e : endsCall s ≡ bad (g .0 .0) = call-reads s (b .args .n) (b .pre .0) (b .pre .1) ∙
+    let e : endsCall s ≡ bad (g .0 .0) = call-reads s (b .args .n) (b .pre .0) (omega (arith, b .pre .1, b .pre .3)) ∙
     opened-bad (readEnds (b .args .n) s 0) (f .result .answer) _ _ (g .0 .0) (g .1) (f .ensures .by) in
     rw (c .not-put .ensures, g .1) (refused-put _ _ (g .0 .0) (rw e refl))
 
@@ -34,7 +34,7 @@ returns-2 c =
     let a = b .args in
     let s = a .ends .now in
     let o = opened-good (readEnds (a .n) s 0) (f .result .answer) _ _ (c .before .before .before .before .before .enum-told .given .1) (f .ensures .by) in
-    let e : endsCall s ≡ good (o .ends) = call-reads s (a .n) (b .pre .0) (b .pre .1) ∙ o .read in
+    let e : endsCall s ≡ good (o .ends) = call-reads s (a .n) (b .pre .0) (omega (arith, b .pre .1, b .pre .3)) ∙ o .read in
     let m = rw (c .before .enum-told3 .given .1) at (c .before .before .before .started .ensures (o .ends) (o .bundles)) in
     rw (c .not-put2 .ensures) (refused-put _ _ _ (star-read s (o .ends) e (a .p) (a .q) ∙ sym m))
 
@@ -45,7 +45,7 @@ returns-3 c =
     let a = b .args in
     let s = a .ends .now in
     let o = opened-good (readEnds (a .n) s 0) (f .result .answer) _ _ (c .before .before .before .before .before .before .before .enum-told .given .1) (f .ensures .by) in
-    let e : endsCall s ≡ good (o .ends) = call-reads s (a .n) (b .pre .0) (b .pre .1) ∙ o .read in
+    let e : endsCall s ≡ good (o .ends) = call-reads s (a .n) (b .pre .0) (omega (arith, b .pre .1, b .pre .3)) ∙ o .read in
     let n = f .result .count in
     let words = f .last .1 .1 .1 .0 in
     let ws = take n words in
@@ -68,7 +68,7 @@ returns-4 c =
     let a = b .args in
     let s = a .ends .now in
     let o = opened-good (readEnds (a .n) s 0) (f .result .answer) _ _ (c .before .before .before .before .before .before .before .before .before .before .before .enum-told .given .1) (f .ensures .by) in
-    let e : endsCall s ≡ good (o .ends) = call-reads s (a .n) (b .pre .0) (b .pre .1) ∙ o .read in
+    let e : endsCall s ≡ good (o .ends) = call-reads s (a .n) (b .pre .0) (omega (arith, b .pre .1, b .pre .3)) ∙ o .read in
     let n = f .result .count in
     let words = f .last .1 .1 .1 .0 in
     let ws = take n words in
@@ -77,7 +77,8 @@ returns-4 c =
     scan-length labelWord nextWord cur ws ∙ length-take-le n words (omega (arith, f .ensures .few)) in
     let m = rw (c .before .before .before .before .before .before .before .cur .given .1) at (c .before .before .before .before .before .before .before .before .before .started .ensures (o .ends) (o .bundles)) in
     let put = full-put (starOn (endsCall s) (a .p) (a .q)) (a .labels .now) (labelsFrom cur ws) (star-read s (o .ends) e (a .p) (a .q) ∙ sym m ∙
-    rw (scan-length labelWord nextWord cur ws) refl) (omega (arith, c .before .before .before .before .before .if1 .left, size)) in
+    rw (scan-length labelWord nextWord cur ws) refl) (omega (arith, size, f .ensures .few, b .pre .3))
+    (omega (arith, c .before .before .before .before .before .if1 .left, size)) in
     rw (c .before .before .put-labels .ensures) (rw size at put)
 
 pub star-over-spec : {M : Type 1} → statement M
