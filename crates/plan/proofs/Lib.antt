@@ -18,3 +18,4 @@ pub mod LawsSmall
 pub mod LawsLong
 pub mod LawsMark
 pub mod LawsGathering
+pub mod LawsParts

@@ -1,17 +1,17 @@
 // The ends of a node, from their bytes straight to their bundles: four sums where every wall lies on an axis, else columns that are put in
 // order. No end is kept.
-use crate::end_bytes::dir_at;
 use crate::end_bytes::end_fault;
+use crate::end_columns::put_end_at;
 use crate::label_bytes::mark_at;
+use crate::parts::axis;
+use crate::parts::on_axis;
+use crate::words::four_bytes_at;
 use bundles::bundles;
-use bundles::columns::put_end;
 use bundles::marks::join;
 use bundles::square::no_sums;
 use bundles::square::put_square;
 use bundles::square::square_bundles;
 use de9im::answer::Checked;
-use ends::edge_end::axis;
-use ends::edge_end::on_axis;
 ghost use mathlib.Core.Bool.{true};
 ghost use mathlib.Core.List.{[]};
 ghost use mathlib.Core.Path.{_≡_};
@@ -36,15 +36,16 @@ fn read_square(s: &[u8], at: usize, n: usize, sums: &mut [u32; 4]) -> bool
     let mut i: usize = 0;
     let mut p = at;
     while i < n {
-        let d = dir_at(s, p);
-        if !on_axis(d) {
+        let x = four_bytes_at(s, p);
+        let y = four_bytes_at(s, p + 4);
+        if !on_axis(x, y) {
             return false;
         }
         let fault = end_fault(s, p);
         let Checked::Fine = fault else {
             return false;
         };
-        let k = axis(d) as usize;
+        let k = axis(x, y);
         put_square(mark_at(s, p + 8), k, sums);
         i += 1;
         p += 15;
@@ -73,7 +74,7 @@ fn read_columns(
         let Checked::Fine = fault else {
             return fault;
         };
-        put_end(dir_at(s, p), mark_at(s, p + 8), i, xs, ys, marks, words);
+        put_end_at(s, p, i, xs, ys, marks, words);
         i += 1;
         p += 15;
     }
