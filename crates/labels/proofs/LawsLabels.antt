@@ -48,7 +48,8 @@ module _ (buf : List ℕ) where
       record { size = length-append xs (a ∷ b ∷ c ∷ d ∷ e ∷ f ∷ g ∷ []) ∙ omega (arith, put .size); is = r₆ .is ∙ simp append-assoc }
 
   -- one label more
-  pub label-put : (ls : List Label) (l : Label) (p : ℕ) (w out : List ℕ) → Front buf (labelsBytes ls) out p → p + 7 ≤ length buf → w ≡ labelBytes l
+  pub label-put : (ls : List Label) (l : Label) (p : ℕ) (w out : List ℕ) → Front buf
+      (labelsBytes ls) out p → p + 7 ≤ length buf → w ≡ labelBytes l
       → Front buf (labelsBytes (ls ++ (l ∷ [])))
       (set (set (set (set (set (set (set out p (getD w 0 0)) (p + 1) (getD w 1 0)) (p + 2) (getD w 2 0)) (p + 3) (getD w 3 0)) (p + 4)
       (getD w 4 0)) (p + 5) (getD w 5 0)) (p + 6) (getD w 6 0)) (p + 7)

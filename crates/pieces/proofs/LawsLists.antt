@@ -6,7 +6,19 @@ use native.Mathlib.Omega.{arith}
 use borrow.Rule.Slice.PartMut.{midOf, putMid, post-is}
 use lib.Dec.{leb}
 use lib.ListN.{length, take, drop, getD, set, length-take, length-drop, length-append}
-use lib.Seq.{take-all, take-take, take-length, drop-length, take-append-seam, take-append-le, take-append-add, length-take-le, set-comm, set-set, set-getD}
+use lib.Seq.{
+  take-all,
+  take-take,
+  take-length,
+  drop-length,
+  take-append-seam,
+  take-append-le,
+  take-append-add,
+  length-take-le,
+  set-comm,
+  set-set,
+  set-getD,
+}
 use borrow.Author.Tests.{leb-true, leb-false}
 use Rattle.de9im.proofs.LawsBool.{told}
 

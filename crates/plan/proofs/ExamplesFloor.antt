@@ -35,7 +35,8 @@ two-records = refl
 -- the node stays; the refused record stands at its end, and the edge behind it isn't looked at
 one-refused : floorOf nineZeros (aNode ++ kindThree ++ anEdge)
     ≡ record { stop = Refused Kind; used = 9; records = 1; cells = 1 ∷ 0 ∷ 0 ∷ 0 ∷ 0 ∷ 0 ∷ 0 ∷ 0 ∷ 0 ∷ [] }
-unfolding floorOf fed recordOf saidOf nodeOf nodeBody nodeAt readEnds pouredStar completedStar missingLeft any walkOf startOf filledOf formOf
+unfolding floorOf fed recordOf saidOf nodeOf nodeBody nodeAt readEnds pouredStar completedStar missingLeft any walkOf startOf filledOf
+    formOf
     dirsFrom pourNode pourLabel pourLabels
 one-refused = refl
 

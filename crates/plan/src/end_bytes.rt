@@ -2,25 +2,12 @@
 use crate::label_bytes::label_fault;
 use crate::parts::bad_parts;
 use crate::words::four_bytes_at;
-use crate::words::signed_of;
 use de9im::answer::Checked;
 use de9im::refusal::Refusal;
-use ends::edge_end::Dir;
 ghost use mathlib.Core.Path.{_≡_};
 ghost use Prim.Native.Nat.{_+_, _≤_};
 ghost use lib.ListN.{length};
-ghost use Rattle.plan.specs.EndBytes.{dirAt};
 ghost use Rattle.plan.specs.Inner.Reading.{endFault};
-
-pub(crate) fn dir_at(s: &[u8], at: usize) -> Dir
-    requires { ⌜ at + 8 ≤ length (now s) ⌝ }
-    ensures { λ r. ⌜ r ≡ dirAt (now (s .entry)) at ⌝ }
-{
-    Dir {
-        dx: signed_of(four_bytes_at(s, at)),
-        dy: signed_of(four_bytes_at(s, at + 4)),
-    }
-}
 
 // The first thing that is wrong with an end's bytes: the direction first, then the label.
 pub(crate) fn end_fault(s: &[u8], at: usize) -> Checked

@@ -17,9 +17,11 @@ returns c =
 returns-2 : tie.Need-returns-2
 returns-2 c =
     let s = c .before .before .before .before .before .before .before .args .s .now in
-    let n = count-fine s (sym (c .before .before .before .before .before .counted .ensures) ∙ c .before .before .before .enum-told .given .1) in
+    let n = count-fine s (sym (c .before .before .before .before .before .counted .ensures) ∙ c .before .before .before .enum-told
+    .given .1) in
     c .bundled-as2 .ensures ∙ rw (c .before .label-of .ensures)
-    (joined-call s (length s / 15) (c .before .before .join-ends .result) (omega (arith, n .whole)) (n .few) (c .before .before .join-ends .ensures))
+    (joined-call s (length s / 15) (c .before .before .join-ends .result) (omega (arith, n .whole)) (n .few)
+    (c .before .before .join-ends .ensures))
 
 pub bundle-bytes-spec : {M : Type 1} → statement M
 bundle-bytes-spec =

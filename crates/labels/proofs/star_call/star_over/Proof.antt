@@ -33,7 +33,8 @@ returns-2 c =
     let b = c .before .before .before .before .before .before .before .before .before .before .before .before .before .before in
     let a = b .args in
     let s = a .ends .now in
-    let o = opened-good (readEnds (a .n) s 0) (f .result .answer) _ _ (c .before .before .before .before .before .enum-told .given .1) (f .ensures .by) in
+    let o = opened-good (readEnds (a .n) s 0) (f .result .answer) _ _ (c .before .before .before .before .before .enum-told .given .1)
+    (f .ensures .by) in
     let e : endsCall s ≡ good (o .ends) = call-reads s (a .n) (b .pre .0) (omega (arith, b .pre .1, b .pre .3)) ∙ o .read in
     let m = rw (c .before .enum-told3 .given .1) at (c .before .before .before .started .ensures (o .ends) (o .bundles)) in
     rw (c .not-put2 .ensures) (refused-put _ _ _ (star-read s (o .ends) e (a .p) (a .q) ∙ sym m))
@@ -41,10 +42,12 @@ returns-2 c =
 returns-3 : tie.Need-returns-3
 returns-3 c =
     let f = c .before .before .before .before .before .before .before .before .before .before .before .node-ends in
-    let b = c .before .before .before .before .before .before .before .before .before .before .before .before .before .before .before .before in
+    let b = c .before .before .before .before .before .before .before .before .before .before .before .before .before .before .before
+    .before in
     let a = b .args in
     let s = a .ends .now in
-    let o = opened-good (readEnds (a .n) s 0) (f .result .answer) _ _ (c .before .before .before .before .before .before .before .enum-told .given .1) (f .ensures .by) in
+    let o = opened-good (readEnds (a .n) s 0) (f .result .answer) _ _
+    (c .before .before .before .before .before .before .before .enum-told .given .1) (f .ensures .by) in
     let e : endsCall s ≡ good (o .ends) = call-reads s (a .n) (b .pre .0) (omega (arith, b .pre .1, b .pre .3)) ∙ o .read in
     let n = f .result .count in
     let words = f .last .1 .1 .1 .0 in
@@ -52,7 +55,8 @@ returns-3 c =
     let cur = c .before .before .before .cur .given .0 .0 in
     let size : length (labelsFrom cur ws) ≡ n =
     scan-length labelWord nextWord cur ws ∙ length-take-le n words (omega (arith, f .ensures .few)) in
-    let m = rw (c .before .before .before .cur .given .1) at (c .before .before .before .before .before .started .ensures (o .ends) (o .bundles)) in
+    let m = rw (c .before .before .before .cur .given .1) at (c .before .before .before .before .before .started .ensures (o .ends)
+    (o .bundles)) in
     rw (c .not-put3 .ensures) (short-put _ _ (labelsFrom cur ws) (star-read s (o .ends) e (a .p) (a .q) ∙ sym m ∙
     rw (scan-length labelWord nextWord cur ws) refl) (omega (arith, c .before .if1 .taken, size)))
 
@@ -63,11 +67,14 @@ put-labels-requires c κs =
 
 returns-4 : tie.Need-returns-4
 returns-4 c =
-    let f = c .before .before .before .before .before .before .before .before .before .before .before .before .before .before .before .node-ends in
-    let b = c .before .before .before .before .before .before .before .before .before .before .before .before .before .before .before .before .before .before .before .before in
+    let f = c .before .before .before .before .before .before .before .before .before .before .before .before .before .before .before
+    .node-ends in
+    let b = c .before .before .before .before .before .before .before .before .before .before .before .before .before .before .before
+    .before .before .before .before .before in
     let a = b .args in
     let s = a .ends .now in
-    let o = opened-good (readEnds (a .n) s 0) (f .result .answer) _ _ (c .before .before .before .before .before .before .before .before .before .before .before .enum-told .given .1) (f .ensures .by) in
+    let o = opened-good (readEnds (a .n) s 0) (f .result .answer) _ _
+    (c .before .before .before .before .before .before .before .before .before .before .before .enum-told .given .1) (f .ensures .by) in
     let e : endsCall s ≡ good (o .ends) = call-reads s (a .n) (b .pre .0) (omega (arith, b .pre .1, b .pre .3)) ∙ o .read in
     let n = f .result .count in
     let words = f .last .1 .1 .1 .0 in
@@ -75,8 +82,10 @@ returns-4 c =
     let cur = c .before .before .before .before .before .before .before .cur .given .0 .0 in
     let size : length (labelsFrom cur ws) ≡ n =
     scan-length labelWord nextWord cur ws ∙ length-take-le n words (omega (arith, f .ensures .few)) in
-    let m = rw (c .before .before .before .before .before .before .before .cur .given .1) at (c .before .before .before .before .before .before .before .before .before .started .ensures (o .ends) (o .bundles)) in
-    let put = full-put (starOn (endsCall s) (a .p) (a .q)) (a .labels .now) (labelsFrom cur ws) (star-read s (o .ends) e (a .p) (a .q) ∙ sym m ∙
+    let m = rw (c .before .before .before .before .before .before .before .cur .given .1) at
+    (c .before .before .before .before .before .before .before .before .before .started .ensures (o .ends) (o .bundles)) in
+    let put = full-put (starOn (endsCall s) (a .p) (a .q)) (a .labels .now) (labelsFrom cur ws) (star-read s (o .ends) e (a .p)
+    (a .q) ∙ sym m ∙
     rw (scan-length labelWord nextWord cur ws) refl) (omega (arith, size, f .ensures .few, b .pre .3))
     (omega (arith, c .before .before .before .before .before .if1 .left, size)) in
     rw (c .before .before .put-labels .ensures) (rw size at put)

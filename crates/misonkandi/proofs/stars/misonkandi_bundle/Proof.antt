@@ -5,7 +5,8 @@ use Rattle.misonkandi.proofs.stars.misonkandi_bundle.Statement.{stateme
 use Rattle.misonkandi.proofs.stars.misonkandi_bundle.Tie as tie
 
 put-bundle-requires : tie.Need-put-bundle-requires
-put-bundle-requires c κs = rw (c .before .bundle-bytes .ensures) (none-below _ (bundle-nowhere (c .before .before .before .args .ends .now)))
+put-bundle-requires c κs = rw (c .before .bundle-bytes .ensures) (none-below _ (bundle-nowhere
+    (c .before .before .before .args .ends .now)))
 
 returns : tie.Need-returns
 returns c = rw (c .before .before .bundle-bytes .ensures) at (c .put-bundle .ensures)

@@ -12,19 +12,26 @@ use Rattle.misonkandi.proofs.stars.misonkandi_star.Statement.{statement
 use Rattle.misonkandi.proofs.stars.misonkandi_star.Tie as tie
 
 checked-word-requires : tie.Need-checked-word-requires
-checked-word-requires c κs = rw (c .before .before .counted .ensures) (none-below _ (count-nowhere (length (c .before .before .before .before .before .args .ends .now))))
+checked-word-requires c κs = rw (c .before .before .counted .ensures) (none-below _ (count-nowhere (length
+    (c .before .before .before .before .before .args .ends .now))))
 
 returns : tie.Need-returns
 returns c =
     let told = c .before .enum-told2 .given .1 in
     let a = c .before .before .before .before .before .before .args in
-    star-refused (starBytesCall (a .ends .now) (pairOf (a .a) (a .b))) (c .before .enum-told2 .given .0 .0) _ _ (rw (← c .before .before .before .counted .ensures, told) refl) (c .checked-word .ensures ∙ simp told)
+    star-refused (starBytesCall (a .ends .now) (pairOf (a .a) (a .b))) (c .before .enum-told2 .given .0 .0) _ _ (rw
+    (← c .before .before .before .counted .ensures, told) refl) (c .checked-word .ensures ∙ simp told)
 
 returns-2 : tie.Need-returns-2
 returns-2 c =
     let a = c .before .before .before .before .before .before .before .before .before .args in
     star-refused (starBytesCall (a .ends .now) (pairOf (a .a) (a .b))) PositionCode _ _
-    (rw (← c .before .before .before .before .before .before .counted .ensures, c .before .before .before .before .enum-told .given .1, ← c .before .before .before .coded-pair .ensures, c .before .enum-told3 .given .1) refl)
+    (rw (
+      ← c .before .before .before .before .before .before .counted .ensures,
+      c .before .before .before .before .enum-told .given .1,
+      ← c .before .before .before .coded-pair .ensures,
+      c .before .enum-told3 .given .1,
+    ) refl)
     (c .refusal-word .ensures)
 
 put-word-requires : tie.Need-put-word-requires
@@ -35,8 +42,16 @@ put-word-requires c κs =
 
 returns-3 : tie.Need-returns-3
 returns-3 c =
-    rw (← c .before .before .before .before .before .before .before .before .before .before .before .counted .ensures, c .before .before .before .before .before .before .before .before .before .enum-told .given .1, ← c .before .before .before .before .before .before .before .before .coded-pair .ensures, c .before .before .before .before .before .before .p .given .1)
-    (star-told _ _ (c .before .before .before .star-bytes .result) _ _ (c .before .before .before .star-bytes .ensures) (c .put-word .ensures))
+    rw (
+      ← c .before .before .before .before .before .before .before .before .before .before .before .counted .ensures,
+      c .before
+          .before .before .before .before .before .before .before .before .enum-told .given .1,
+      ← c .before .before .before .before
+          .before .before .before .before .coded-pair .ensures,
+      c .before .before .before .before .before .before .p .given .1,
+    )
+    (star-told _ _ (c .before .before .before .star-bytes .result) _ _ (c .before .before .before .star-bytes .ensures)
+    (c .put-word .ensures))
 
 pub misonkandi-star-spec : {M : Type 1} → statement M
 misonkandi-star-spec =

@@ -20,7 +20,8 @@ returns c ns bs h =
     let s = q .before .before .before .before in
     let state = now (s .args .state) in
     let held = p .pushed .last .1 .0 in
-    let is = put-in-front state held (f .head .result) (p .pushed .result) (k .copy .last .1 .0) (s .pre) (search needs) (f .head .ensures .0)
+    let is = put-in-front state held (f .head .result) (p .pushed .result) (k .copy .last .1 .0) (s .pre) (search needs)
+    (f .head .ensures .0)
     (k .copy .ensures .1) in
     let before : HoldsIn ns bs (q .read-state .result) (take (length state - headSize) (heldIn state)) =
     rw (q .read-state .ensures, to-end state headSize) h in

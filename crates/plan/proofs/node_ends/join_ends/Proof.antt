@@ -46,11 +46,13 @@ loop-again c =
     let l = c .before .before .before .before .before .before .loop in
     let b = c .before .before .before .before .before .before .before .before in
     let s = b .args .s .now in
-    let f : endFault s (l .p) ≡ Fine = sym (c .before .before .before .before .end-fault .ensures) ∙ c .before .before .enum-told .given .1 in
+    let f : endFault s (l .p) ≡ Fine = sym (c .before .before .before .before .end-fault .ensures) ∙ c .before .before .enum-told
+    .given .1 in
     let e = endRead s (l .p) in (
       omega arith,
       omega arith,
-      one-read (λ es. l .word ≡ joinedWord es) s (b .args .at) (b .args .n) (l .i) (l .p) (l .inv .2) (λ es. c .join .result ≡ joinedWord es)
+      one-read (λ es. l .word ≡ joinedWord es) s (b .args .at) (b .args .n) (l .i) (l .p) (l .inv .2)
+          (λ es. c .join .result ≡ joinedWord es)
           e (omega arith) (unfaulted s (l .p) f .end-good)
           (λ es m k. c .join .ensures ∙ rw (k, c .before .mark-at .ensures ∙ end-mark s (l .p)) (joined-more es e)),
     )

@@ -22,7 +22,8 @@ same-length c = search needs
 returns : tie.Need-returns
 returns c =
     let q = c .before .before .square-bundles .ensures in
-    let a = c .before .before .before .before .before .before .read-square .ensures (c .before .before .before .before .before .if1 .taken) in
+    let a = c .before .before .before .before .before .before .read-square .ensures
+    (c .before .before .before .before .before .if1 .taken) in
     let s = c .before .before .before .before .before .before .before .before .before .before .before .args in
     record {
       few = search needs;

@@ -18,28 +18,35 @@ returns c =
 
 slice-aggregate-bundles : tie.Need-slice-aggregate-bundles
 slice-aggregate-bundles c =
-    let b = c .before .before .before .before .before .before .before .before .before .before .before .before .before .before .before .before .before .before .before .before .before .before in
+    let b = c .before .before .before .before .before .before .before .before .before .before .before .before .before .before .before
+    .before .before .before .before .before .before .before in
     sym (length-take-le (b .args .n) _ (search needs))
 
 slice-aggregate-bundles-2 : tie.Need-slice-aggregate-bundles-2
 slice-aggregate-bundles-2 c =
-    let b = c .before .before .before .before .before .before .before .before .before .before .before .before .before .before .before .before .before .before .before .before .before .before .before in
+    let b = c .before .before .before .before .before .before .before .before .before .before .before .before .before .before .before
+    .before .before .before .before .before .before .before .before in
     sym (length-take-le (b .args .n) _ (search needs))
 
 bundles-requires : tie.Need-bundles-requires
 bundles-requires c κs =
-    let b = c .before .before .before .before .before .before .before .before .before .before .before .before .before .before .before .before .before .before .before .before .before .before .before .before in
-    let r = c .before .before .before .before .before .before .before .before .before .before .before .before .before .before .read-columns in
+    let b = c .before .before .before .before .before .before .before .before .before .before .before .before .before .before .before
+    .before .before .before .before .before .before .before .before .before in
+    let r = c .before .before .before .before .before .before .before .before .before .before .before .before .before .before
+    .read-columns in
     let told = c .before .before .before .before .before .before .enum-told .given .1 in
     read-lent (b .args .n) (b .args .s .now) (b .args .at) _ _ _ _ (b .pre .1 .few) (search needs) (rw told at (r .ensures)) _ _
     (length-take-le (b .args .n) _ (search needs)) (search needs)
 
 returns-2 : tie.Need-returns-2
 returns-2 c =
-    let b = c .before .before .before .before .before .before .before .before .before .before .before .before .before .before .before .before .before .before .before .before .before .before .before .before .before .before .before .before .before .before .before in
-    let r = c .before .before .before .before .before .before .before .before .before .before .before .before .before .before .before .before .before .before .before .before .before .read-columns in
+    let b = c .before .before .before .before .before .before .before .before .before .before .before .before .before .before .before
+    .before .before .before .before .before .before .before .before .before .before .before .before .before .before .before .before in
+    let r = c .before .before .before .before .before .before .before .before .before .before .before .before .before .before .before
+    .before .before .before .before .before .before .read-columns in
     let k = c .before .before .before .before .before .before .bundles in
-    let told = c .before .before .before .before .before .before .before .before .before .before .before .before .before .enum-told .given .1 in
+    let told = c .before .before .before .before .before .before .before .before .before .before .before .before .before .enum-told
+    .given .1 in
     let a = rw told at (r .ensures) in
     let few = read-few (b .args .n) (b .args .s .now) (b .args .at) _ _ _ _ (b .pre .1 .few) (search needs) a _ _ (k .ensures) in
     record {

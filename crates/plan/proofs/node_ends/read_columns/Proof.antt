@@ -68,14 +68,17 @@ put-end-at-requires c κs =
 
 loop-again : tie.Need-loop-again Inv-loop μ-loop
 loop-again c =
-    let l = c .before .before .before .before .before .before .before .before .before .before .before .before .before .before .before .loop in
+    let l = c .before .before .before .before .before .before .before .before .before .before .before .before .before .before .before
+    .loop in
     let b = c .before .before .before .before .before .before .before .before .before .before .before .before .before .before .before
     .before .before .before .before in
     let s = b .args .s .now in
     let w = b .pre .1 in
-    let t = c .before .before .before .before .before .before .before .before .before .before .before .before .before .before .loop-test .taken in
+    let t = c .before .before .before .before .before .before .before .before .before .before .before .before .before .before
+    .loop-test .taken in
     let p = c .before .before .before .before .before .before .put-end-at .ensures in
-    let f : endFault s (l .p) ≡ Fine = sym (c .before .before .before .before .before .before .before .before .before .before .before .before .before .end-fault .ensures) ∙
+    let f : endFault s (l .p) ≡ Fine = sym (c .before .before .before .before .before .before .before .before .before .before .before
+    .before .before .end-fault .ensures) ∙
     c .before .before .before .before .before .before .before .before .before .before .before .enum-told .given .1 in
     let u = unfaulted s (l .p) f in
     let e = endRead s (l .p) in

@@ -92,7 +92,8 @@ loop-again c =
       one-read (λ es. Sums es (l .sums)) s (b .args .at) (b .args .n) (l .i) (l .p) (l .inv .2) (λ es. Sums es _) e (omega arith)
           (unfaulted s (l .p) f .end-good)
           (λ es m k. c .put-square .ensures es e k (record {
-            square = ap onAxis d ∙ c .before .before .before .before .before .before .before .before .on-axis .ensures (not-not _ (c .before .before .before .before .before .before .before .if1 .left)) g;
+            square = ap onAxis d ∙ c .before .before .before .before .before .before .before .before .on-axis .ensures (not-not _
+                (c .before .before .before .before .before .before .before .if1 .left)) g;
             axis = ap axisOf d ∙ sym (c .before .before .before .axis .ensures .0);
             mark = c .before .before .mark-at .ensures ∙ end-mark s (l .p);
           })),

@@ -26,25 +26,32 @@ returns-4 : tie.Need-returns-4
 returns-4 c =
     let s = c .before .before .before .before .before .before .before .before .before .before .before .args in
     c .refused4 .ensures ∙
-    sym (other-version (s .cells) (s .s .now) (omega arith) (omega arith) (omega arith) (sym (c .before .before .is-version .ensures) ∙ not-true _ (c .before .if4 .taken)))
+    sym (other-version (s .cells) (s .s .now) (omega arith) (omega arith) (omega arith) (sym
+    (c .before .before .is-version .ensures) ∙ not-true _ (c .before .if4 .taken)))
 
 returns-5 : tie.Need-returns-5
 returns-5 c =
     let s = c .before .before .before .before .before .before .before .before .before .before .before .before .before .args in
     c .node-record .ensures ∙
-    sym (a-node (s .cells) (s .s .now) (omega arith) (omega arith) (omega arith) (sym (c .before .before .before .before .is-version .ensures) ∙ not-false _ (c .before .before .before .if4 .left)) (c .before .if5 .taken))
+    sym (a-node (s .cells) (s .s .now) (omega arith) (omega arith) (omega arith) (sym
+    (c .before .before .before .before .is-version .ensures) ∙ not-false _ (c .before .before .before .if4 .left))
+    (c .before .if5 .taken))
 
 returns-6 : tie.Need-returns-6
 returns-6 c =
     let s = c .before .before .before .before .before .before .before .before .before .before .before .before .before .before .args in
     c .edge-record .ensures ∙
-    sym (an-edge (s .cells) (s .s .now) (omega arith) (omega arith) (omega arith) (sym (c .before .before .before .before .before .is-version .ensures) ∙ not-false _ (c .before .before .before .before .if4 .left)) (c .before .before .if5 .left) (c .before .if6 .taken))
+    sym (an-edge (s .cells) (s .s .now) (omega arith) (omega arith) (omega arith) (sym
+    (c .before .before .before .before .before .is-version .ensures) ∙ not-false _ (c .before .before .before .before .if4 .left))
+    (c .before .before .if5 .left) (c .before .if6 .taken))
 
 returns-7 : tie.Need-returns-7
 returns-7 c =
     let s = c .before .before .before .before .before .before .before .before .before .before .before .before .before .before .args in
     c .refused5 .ensures ∙
-    sym (other-kind (s .cells) (s .s .now) (omega arith) (omega arith) (omega arith) (sym (c .before .before .before .before .before .is-version .ensures) ∙ not-false _ (c .before .before .before .before .if4 .left)) (c .before .before .if5 .left) (c .before .if6 .left))
+    sym (other-kind (s .cells) (s .s .now) (omega arith) (omega arith) (omega arith) (sym
+    (c .before .before .before .before .before .is-version .ensures) ∙ not-false _ (c .before .before .before .before .if4 .left))
+    (c .before .before .if5 .left) (c .before .if6 .left))
 
 pub record-spec : {M : Type 1} → statement M
 record-spec =
