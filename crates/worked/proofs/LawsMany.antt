@@ -23,7 +23,8 @@ behind h t n i j l k e =
     rw at (getD-append-add h t j 0)
 
 pub ends-behind : (h t : List ℕ) (n : ℕ) → readEnds n (h ++ t) (length h) ≡ readEnds n t 0
-ends-behind h t n = ends-moved (15 * n) (h ++ t) (length h) t 0 (behind h t (15 * n)) n (length h) 0 (omega arith) (omega arith) (omega arith)
+ends-behind h t n = ends-moved (15 * n) (h ++ t) (length h) t 0 (behind h t (15 * n)) n (length h) 0 (omega arith) (omega arith)
+    (omega arith)
 
 many-read : (n : ℕ) → readEnds n (many n) 0 ≡ good (replicate n wall)
 unfolding readEnds endAt dirAt labelAt sidesAt
