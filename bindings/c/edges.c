@@ -55,9 +55,6 @@ typedef struct {
     size_t count, room; /* of bytes, of the buffer's; of an outline or a shape, the count is of numbers */
 } lendings;
 
-/* Room for the labels of any star. */
-enum { LABELS = MISONKANDI_MOST_ENDS * MISONKANDI_LABEL_BYTES };
-
 typedef uint32_t call(const lendings *l);
 
 static uint32_t from_text(const lendings *l) { return misonkandi_from_text(l->cells, l->bytes, l->count); }
@@ -77,7 +74,7 @@ static uint32_t relate(const lendings *l) {
 }
 static uint32_t point_in_outline(const lendings *l) { return misonkandi_point_in_outline(l->xy, l->count, 1, 0); }
 static uint32_t bundle(const lendings *l) { return misonkandi_bundle(l->bytes, l->count, l->text); }
-static uint32_t star(const lendings *l) { return misonkandi_star(l->bytes, l->count, 1, 0, l->labels, LABELS); }
+static uint32_t star(const lendings *l) { return misonkandi_star(l->bytes, l->count, 1, 0, l->labels); }
 static uint32_t record(const lendings *l) { return misonkandi_record(l->cells, l->bytes, l->count); }
 static uint32_t whole_floor(const lendings *l) {
     return misonkandi_floor(l->cells, l->bytes, l->count, l->answer);
@@ -100,7 +97,7 @@ static uint32_t convert(const lendings *l) {
 }
 /* The long form is written, at the end of the labels' bytes. */
 static uint32_t convert_short(const lendings *l) {
-    return misonkandi_convert_report(l->bytes, l->count, l->labels, LABELS, LABELS - MISONKANDI_REPORT_BYTES);
+    return misonkandi_convert_report(l->bytes, l->count, l->labels, 224, 224 - MISONKANDI_REPORT_BYTES);
 }
 /* A node grows by a byte, an edge by none; written at the end of the buffer. */
 static uint32_t convert_record(const lendings *l) {
@@ -112,12 +109,11 @@ static uint32_t write_wkt(const lendings *l) {
     return misonkandi_write_wkt(MISONKANDI_SHAPE_POLYGON, l->xy, l->count, l->buffer, l->room, 0);
 }
 
-/* The bytes that a call is given: a text, a predicate's name, ends, as many as a call takes, a record of a node, of as many
- * ends as a record has, or of an edge, a floor of both, a shape's text, a report, long or short. Or the numbers of an outline
- * or of a shape. */
+/* The bytes that a call is given: a text, a predicate's name, ends, a record of a node or of an edge, a floor of both,
+ * a shape's text, a report, long or short. Or the numbers of an outline or of a shape. */
 enum { NO_ROW = 8388607 }; /* MISONKANDI_NO_SUCH_ROW, read as a refusal */
-enum given { TEXT, NAME, ENDS, MOST_ENDS, NODE, PILLAR, EDGE, FLOOR, OUTLINE, SHAPE, WKT, REPORT, SHORT_REPORT };
-enum { MOST_GIVEN = MISONKANDI_MOST_RECORD_BYTES };
+enum given { TEXT, NAME, ENDS, NODE, EDGE, FLOOR, OUTLINE, SHAPE, WKT, REPORT, SHORT_REPORT };
+enum { MOST_GIVEN = MISONKANDI_MOST_WKT_BYTES };
 
 static const struct {
     const char *name;
@@ -141,11 +137,8 @@ static const struct {
     {"relate_places", relate, TEXT, 0, 1},
     {"point_in_outline", point_in_outline, OUTLINE, 16, 0},
     {"bundle", bundle, ENDS, 0, 0},
-    {"bundle, 600 ends", bundle, MOST_ENDS, 0, 0},
     {"star", star, ENDS, 0, 0},
-    {"star, 600 ends", star, MOST_ENDS, 0, 0},
     {"record, a node", record, NODE, 1, 1},
-    {"record, 600 ends", record, PILLAR, 1, 1},
     {"record, an edge", record, EDGE, 1, 1},
     {"floor", whole_floor, FLOOR, 0, 1},
     {"start", begin, FLOOR, 0, 0},
@@ -173,16 +166,6 @@ static void write_ends(uint8_t *to) {
         to[3] = (uint8_t)(1 + 7 * k % 32);
         to[7] = (uint8_t)(32 - 7 * k % 32);
         memcpy(to + 8, labels[k % 2], 7);
-    }
-}
-
-/* 600 ends in near-equal directions, which only the product tells apart. */
-static void write_most_ends(uint8_t *to) {
-    static const uint8_t first[15] = {119, 53, 147, 0, 59, 154, 202, 0, MISONKANDI_AREA, 2, 1, 3, 2, 3, 1};
-    int k;
-    for (k = 0; k < MISONKANDI_MOST_ENDS; k++, to += MISONKANDI_END_BYTES) {
-        memcpy(to, first, MISONKANDI_END_BYTES);
-        to[3] = (uint8_t)(37 * k), to[7] = (uint8_t)(91 * k / 3);
     }
 }
 
@@ -216,13 +199,10 @@ static size_t write_longest(uint8_t to[MOST_GIVEN]) {
 static size_t write_given(enum given given, uint8_t to[MOST_GIVEN]) {
     static const uint8_t node[9] = {1, 231, 1, MISONKANDI_NODE, 2, 3, 1, 0, 32};
     static const uint8_t edge[11] = {0, 9, 1, MISONKANDI_EDGE, MISONKANDI_AREA, 2, 1, 3, 2, 3, 1};
-    static const uint8_t pillar[10] = {35, 48, 2, MISONKANDI_NODE, 2, 3, 1, 0, 2, 88};
     switch (given) {
     case TEXT: memcpy(to, "210F21012", 9); return 9;
     case NAME: memcpy(to, "contains_properly", 17); return 17;
     case ENDS: write_ends(to); return 480;
-    case MOST_ENDS: write_most_ends(to); return 9000;
-    case PILLAR: memcpy(to, pillar, 10); write_most_ends(to + 10); return 9010;
     case NODE: memcpy(to, node, 9); write_ends(to + 9); return 489;
     case EDGE: memcpy(to, edge, 11); return 11;
     case FLOOR: memcpy(to, node, 9); write_ends(to + 9); memcpy(to + 489, edge, 11); return 500;
@@ -244,8 +224,8 @@ static uint32_t guarded_call(int k, const uint8_t *bytes, size_t count, int at_e
     enum given given = calls[k].given;
     lendings l;
     l.cells = lent(room[0], start, 9, at_end);
-    l.text = lent(room[1], nothing, given == ENDS || given == MOST_ENDS ? 7 : 9, at_end);
-    l.labels = lent(room[2], nothing, LABELS, at_end);
+    l.text = lent(room[1], nothing, given == ENDS ? 7 : 9, at_end);
+    l.labels = lent(room[2], nothing, 224, at_end);
     if (given == OUTLINE || given == SHAPE)
         l.xy = (const int32_t *)lent(room[3], numbers_of(given), count * sizeof saw[0], at_end);
     else l.bytes = lent(room[3], bytes, count, at_end);
@@ -280,7 +260,7 @@ static void all_counts(void) {
 static void nulls(void) {
     int k;
     for (k = 0; k < CALLS; k++) {
-        uint8_t cells[9] = {9, 8, 7, 6, 5, 4, 255, 0, 3}, before[9], text[9], labels[LABELS];
+        uint8_t cells[9] = {9, 8, 7, 6, 5, 4, 255, 0, 3}, before[9], text[9], labels[224];
         int32_t corners[MOST_NUMBERS];
         uint64_t answer[3];
         misonkandi_pieces state;
@@ -315,14 +295,14 @@ static void numbers(void) {
         "covers",   "contains_properly", "touches", "crosses",  "overlaps",
     };
     static const struct { int byte; uint8_t to; unsigned number; } damages[] = {
-        {0, 255, MISONKANDI_REFUSAL_SHORT},         {2, 3, MISONKANDI_REFUSAL_VERSION},
+        {0, 255, MISONKANDI_REFUSAL_SHORT},         {2, 2, MISONKANDI_REFUSAL_VERSION},
         {3, 3, MISONKANDI_REFUSAL_KIND},            {1, 0, MISONKANDI_REFUSAL_LENGTH},
         {8, 33, MISONKANDI_REFUSAL_ENDS},           {4, 0, MISONKANDI_REFUSAL_POSITION_CODE},
         {7, 4, MISONKANDI_REFUSAL_POSITION_CODE},   {17, 2, MISONKANDI_REFUSAL_LABEL_KIND},
         {17, 0, MISONKANDI_REFUSAL_LABEL_KIND},     {9, 128, MISONKANDI_REFUSAL_DIRECTION},
         {19, 0, MISONKANDI_REFUSAL_MISSING_LEFT},
     };
-    uint8_t cells[9] = MISONKANDI_START, bytes[601 * MISONKANDI_END_BYTES], labels[LABELS];
+    uint8_t cells[9] = MISONKANDI_START, bytes[MOST_GIVEN], labels[224];
     size_t k;
     for (k = 0; k < sizeof damages / sizeof damages[0]; k++) {
         size_t whole = write_given(NODE, bytes);
@@ -340,17 +320,11 @@ static void numbers(void) {
     refused(misonkandi_set(cells, 4, 0, 0), MISONKANDI_REFUSAL_POSITION_CODE, 0);
 
     write_given(ENDS, bytes);
-    memset(labels, 9, LABELS);
-    refused(misonkandi_star(bytes, 30, 0, 0, labels, 13), MISONKANDI_REFUSAL_NO_ROOM, 0);
-    refused(misonkandi_star(bytes, 30, 0, 0, NULL, 0), MISONKANDI_REFUSAL_NO_ROOM, 0);
-    SAME(labels[0], 9);
-    SAME(misonkandi_star(bytes, 30, 0, 0, labels, 14), 2);
-    SAME(labels[13] == 9, 0), SAME(labels[14], 9);
-    refused(misonkandi_star(bytes, 14, 4, 0, labels, 0), MISONKANDI_REFUSAL_LENGTH, 0);
-    refused(misonkandi_star(bytes, 601 * 15, 4, 0, labels, 0), MISONKANDI_REFUSAL_ENDS, 0);
+    refused(misonkandi_star(bytes, 14, 4, 0, labels), MISONKANDI_REFUSAL_LENGTH, 0);
+    refused(misonkandi_star(bytes, 33 * 15, 4, 0, labels), MISONKANDI_REFUSAL_ENDS, 0);
     bytes[8] = 2;
-    refused(misonkandi_star(bytes, 15, 0, 4, labels, 0), MISONKANDI_REFUSAL_POSITION_CODE, 0);
-    refused(misonkandi_star(bytes, 15, 0, 0, labels, 0), MISONKANDI_REFUSAL_LABEL_KIND, 0);
+    refused(misonkandi_star(bytes, 15, 0, 4, labels), MISONKANDI_REFUSAL_POSITION_CODE, 0);
+    refused(misonkandi_star(bytes, 15, 0, 0, labels), MISONKANDI_REFUSAL_LABEL_KIND, 0);
 
     for (k = 0; k < MISONKANDI_ROWS; k++) SAME(misonkandi_predicate_named(bytes_of(names[k]), strlen(names[k])), k);
     SAME(misonkandi_predicate_named(bytes_of("touch"), 5), MISONKANDI_NO_SUCH_ROW);
@@ -847,7 +821,7 @@ static void shapes(void) {
 
 /* All that a call is lent, at its full length. */
 static lendings all_lent(int k) {
-    static uint8_t cells[9], text[9], labels[LABELS], bytes[MOST_GIVEN], buffer[MOST_GIVEN];
+    static uint8_t cells[9], text[9], labels[224], bytes[MOST_GIVEN], buffer[MOST_GIVEN];
     static int32_t corners[MOST_NUMBERS];
     static uint64_t answer[3];
     static misonkandi_pieces state;

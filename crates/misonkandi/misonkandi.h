@@ -305,25 +305,22 @@ uint32_t misonkandi_write_wkt(uint32_t kind, const int32_t *xy, size_t numbers, 
  *   - Then every position still none becomes Outside if any line bundle of the star is OnBoundary for that geometry;
  *     else the node's area position, or Outside if that is none (the geometry is no area). A line's label has no sides.
  *
- * Both calls check as a record does: 4 if the bytes are no whole ends; 5, more than 600; for a star 6, an area position
- * above 3; each end in turn 8, its label's kind 7, its codes 6, its sides 7; then, for a star, 9, and last 12.
+ * Both calls check as a record does: 4 if the bytes are no whole ends; 5; for a star 6, an area position above 3; each
+ * end in turn 8, its label's kind 7, its codes 6, its sides 7; last, for a star, 9.
  */
 #define MISONKANDI_LABEL_BYTES 7
 #define MISONKANDI_END_BYTES 15
-/* The most ends that both calls take, and a record of version 2. One of version 1 has at most 32. */
-#define MISONKANDI_MOST_ENDS 600
+#define MISONKANDI_MOST_ENDS 32
 
 enum misonkandi_label_kinds { MISONKANDI_LINE = 0, MISONKANDI_AREA = 1 };
 
 /* Joins all ends into one label, whatever their directions: 0 and the label written, or a refusal. */
 uint32_t misonkandi_bundle(const uint8_t *ends, size_t count, uint8_t label[7]);
 
-/* The completed labels of the star of these ends, in order: how many (0 to 600), with seven bytes for each in the front of
- * the buffer and every other byte as it was; or a refusal, and no byte written. There are never more labels than ends; 12 if
- * fewer than 7 bytes a label are lent. The area positions are the node's against A's and B's area, none for a geometry that
- * is no area. */
-uint32_t misonkandi_star(const uint8_t *ends, size_t count, uint32_t area_a, uint32_t area_b, uint8_t *labels,
-                         size_t room);
+/* The completed labels of the star of these ends, in order: how many (0 to 32), with seven bytes written for each and
+ * zeros after them up to 32 * 7; or a refusal. The area positions are the node's against A's and B's area, none for a
+ * geometry that is no area. */
+uint32_t misonkandi_star(const uint8_t *ends, size_t count, uint32_t area_a, uint32_t area_b, uint8_t labels[224]);
 
 /* ---- Plan records ----
  *

@@ -62,15 +62,11 @@ pub use outline::{Outline, point_in_outline};
 pub use place::{Coord, Place, relate_coded};
 pub use positions::{CoordPos, Dimensions};
 pub use predicate::{NoSuchPredicate, Predicate};
-#[cfg(feature = "alloc")]
-pub use record::large_node_record;
-pub use record::{MOST_RECORD_BYTES, MOST_RECORD_ENDS, Record};
+pub use record::{MOST_RECORD_BYTES, Record};
 pub use refusal::{InvalidInputError, Refusal};
 pub use report::{REPORT_BYTES, SHORT_REPORT_BYTES, convert_report};
 pub use shape::{MOST_WKT_BYTES, Shape, ShapeKind, read_wkt, write_wkt};
-pub use star::{
-    END_BYTES, EdgeEnd, LABEL_BYTES, Label, MOST_ENDS, Sides, bundle, bundle_of_bytes, star_into,
-};
+pub use star::{END_BYTES, EdgeEnd, LABEL_BYTES, Label, MOST_ENDS, Sides, bundle, bundle_of_bytes};
 #[cfg(feature = "alloc")]
 pub use star::{star, star_of_bytes};
 pub use verdict::Verdict;

@@ -1,7 +1,5 @@
 //! Plan records, written.
 
-#[cfg(feature = "alloc")]
-use alloc::{vec, vec::Vec};
 use core::fmt;
 use core::ops::Deref;
 
@@ -10,25 +8,18 @@ use crate::positions::CoordPos;
 use crate::refusal::{Refusal, answered};
 use crate::star::{END_BYTES, EdgeEnd, Label, MOST_ENDS, write_ends};
 
-/// The most bytes that a record has: of version 2, two of length, eight of a node, 600 ends.
-pub const MOST_RECORD_BYTES: usize = NODE_BYTES + 1 + MOST_ENDS * END_BYTES;
+/// The most bytes that a record has: two of length, seven of a node, 32 ends.
+pub const MOST_RECORD_BYTES: usize = NODE_BYTES + MOST_ENDS * END_BYTES;
 
-/// The most ends of a [`Record`], which is of version 1.
-pub const MOST_RECORD_ENDS: usize = 32;
-
-/// Bytes of a node's record of version 1 before its ends: length, version, kind, four positions, count. Version 2 has a
-/// second one for the count.
+/// Bytes of a node's record before its ends: length, version, kind, four positions, count.
 const NODE_BYTES: usize = 9;
 
-/// The most bytes of a record of version 1.
-const FIRST_BYTES: usize = NODE_BYTES + MOST_RECORD_ENDS * END_BYTES;
-
-/// The version of a [`Record`], and the two kinds.
+/// The version that there is, and the two kinds.
 const VERSION: u8 = 1;
 const NODE: u8 = 1;
 const EDGE: u8 = 2;
 
-/// The bytes of a plan record of version 1 that the library accepts: [`pour_record`](crate::IntersectionMatrix::pour_record) refuses
+/// The bytes of a plan record that the library accepts: [`pour_record`](crate::IntersectionMatrix::pour_record) refuses
 /// none, into any matrix.
 ///
 /// What it is written from is refused where its bytes would be, by the library itself: a new record is poured once into a
@@ -56,7 +47,7 @@ const EDGE: u8 = 2;
 #[derive(Clone, PartialEq, Eq, Hash)]
 pub struct Record {
     /// Those past the count are 0.
-    bytes: [u8; FIRST_BYTES],
+    bytes: [u8; MOST_RECORD_BYTES],
     count: usize,
 }
 
@@ -64,13 +55,13 @@ impl Record {
     /// A node: where it lies against A and B, where against their areas (none for one that is no area), and the edges that
     /// end there, in any order.
     ///
-    /// Refused: 5 above 32 ends, for which there is [`large_node_record`]; each end in turn 8, 7; last 9.
+    /// Refused: 5; each end in turn 8, 7; last 9.
     pub fn node(
         on: [CoordPos; 2],
         areas: [Option<CoordPos>; 2],
         ends: &[EdgeEnd],
     ) -> Result<Record, Refusal> {
-        let mut room = [0; MOST_RECORD_ENDS * END_BYTES];
+        let mut room = [0; MOST_ENDS * END_BYTES];
         let ends = write_ends(ends, &mut room)?;
         let [on_a, on_b] = on.map(|position| CoordPos::code(Some(position)));
         let [area_a, area_b] = areas.map(CoordPos::code);
@@ -89,7 +80,7 @@ impl Record {
     fn of(head: &[u8], rest: &[u8]) -> Result<Record, Refusal> {
         let start = 2 + head.len();
         let count = start + rest.len();
-        let mut bytes = [0; FIRST_BYTES];
+        let mut bytes = [0; MOST_RECORD_BYTES];
         let length = (count - 2) as u16; // at most 487
         bytes[..2].copy_from_slice(&length.to_be_bytes());
         bytes[2..start].copy_from_slice(head);
@@ -103,41 +94,6 @@ impl Record {
     pub fn as_bytes(&self) -> &[u8] {
         &self.bytes[..self.count]
     }
-}
-
-/// The bytes of a node's record of version 2, which has up to 600 ends, else as [`Record::node`]: the library accepts them.
-///
-/// Refused: 5 above 600 ends; each end in turn 8, 7; last 9.
-///
-/// ```
-/// use misonkandi::{CoordPos, EdgeEnd, IntersectionMatrix, Label, Refusal, large_node_record};
-///
-/// let wall = EdgeEnd { dx: 1, dy: 0, label: Label::default() };
-/// let on = [CoordPos::Inside; 2];
-/// let pillar = large_node_record(on, [None; 2], &[wall; 600])?;
-/// assert_eq!(pillar.len(), 10 + 15 * 600);
-/// assert_eq!(IntersectionMatrix::empty().pour_record(&pillar), Ok(9010));
-/// assert_eq!(large_node_record(on, [None; 2], &[wall; 601]), Err(Refusal::Ends));
-/// # Ok::<(), Refusal>(())
-/// ```
-#[cfg(feature = "alloc")]
-pub fn large_node_record(
-    on: [CoordPos; 2],
-    areas: [Option<CoordPos>; 2],
-    ends: &[EdgeEnd],
-) -> Result<Vec<u8>, Refusal> {
-    let count = ends.len().min(MOST_ENDS);
-    let mut bytes = vec![0; NODE_BYTES + 1 + count * END_BYTES];
-    let (head, room) = bytes.split_at_mut(NODE_BYTES + 1);
-    write_ends(ends, room)?;
-    let length = (8 + count * END_BYTES) as u16; // at most 9008
-    let [on_a, on_b] = on.map(|position| CoordPos::code(Some(position)));
-    let [area_a, area_b] = areas.map(CoordPos::code);
-    head[..2].copy_from_slice(&length.to_be_bytes());
-    head[2..8].copy_from_slice(&[2, NODE, on_a, on_b, area_a, area_b]);
-    head[8..].copy_from_slice(&(count as u16).to_be_bytes()); // at most 600
-    answered(c::record(&mut [0; 9], &bytes))?;
-    Ok(bytes)
 }
 
 impl Deref for Record {

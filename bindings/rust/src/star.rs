@@ -1,7 +1,7 @@
 //! Edge ends, labels, bundles and stars.
 
 #[cfg(feature = "alloc")]
-use alloc::{vec, vec::Vec};
+use alloc::vec::Vec;
 
 use crate::c;
 use crate::positions::CoordPos;
@@ -46,8 +46,8 @@ pub const LABEL_BYTES: usize = 7;
 /// Bytes of an end in a record.
 pub const END_BYTES: usize = 15;
 
-/// The most ends that [`bundle`] and [`star`] take, and a record of version 2.
-pub const MOST_ENDS: usize = 600;
+/// The most ends that a node may have.
+pub const MOST_ENDS: usize = 32;
 
 impl Sides {
     fn bytes(self) -> [u8; 3] {
@@ -109,13 +109,16 @@ impl EdgeEnd {
     }
 }
 
-/// Writes ends as a record has them, one after the other, and answers those bytes. More than there is room for are refused
-/// here: every call that takes ends refuses too many of them before anything else.
-pub(crate) fn write_ends<'a>(ends: &[EdgeEnd], room: &'a mut [u8]) -> Result<&'a [u8], Refusal> {
-    let (places, _) = room.as_chunks_mut::<END_BYTES>();
-    if ends.len() > places.len() {
+/// Writes ends as a record has them, one after the other, and answers those bytes. More than a record may have are
+/// refused here: every call that takes ends refuses them for nothing else first.
+pub(crate) fn write_ends<'a>(
+    ends: &[EdgeEnd],
+    room: &'a mut [u8; MOST_ENDS * END_BYTES],
+) -> Result<&'a [u8], Refusal> {
+    if ends.len() > MOST_ENDS {
         return Err(Refusal::Ends);
     }
+    let (places, _) = room.as_chunks_mut::<END_BYTES>();
     for (place, end) in places.iter_mut().zip(ends) {
         *place = end.bytes();
     }
@@ -128,7 +131,7 @@ fn label_of(bytes: [u8; LABEL_BYTES]) -> Label {
 
 /// Joins all ends into the label of one bundle; their directions are not compared.
 ///
-/// Refused: 5 above 600 ends; then each end in turn 8, 7. Promised: `bundledOf`, crates/star/specs/Calls.antt; the order of the ends doesn't
+/// Refused: 5; then each end in turn 8, 7. Promised: `bundledOf`, crates/star/specs/Calls.antt; the order of the ends doesn't
 /// matter (`join-shuffled`, crates/ends/proofs/LawsJoin.antt).
 pub fn bundle(ends: &[EdgeEnd]) -> Result<Label, Refusal> {
     let mut room = [0; MOST_ENDS * END_BYTES];
@@ -147,7 +150,7 @@ pub fn bundle_of_bytes(ends: &[u8]) -> Result<[u8; LABEL_BYTES], Refusal> {
 /// The completed labels of a star: the ends sorted into bundles, counterclockwise from the east, joined and completed.
 /// `area_a` and `area_b` are the node's positions in A's and in B's area, none where that one is no area.
 ///
-/// Refused: 5 above 600 ends; each end in turn 8, 7; last 9. Promised: `starCall`, crates/star/specs/Calls.antt; there is one way to put ends
+/// Refused: 5; each end in turn 8, 7; last 9. Promised: `starCall`, crates/star/specs/Calls.antt; there is one way to put ends
 /// into bundles in order (`only-order`, crates/ends/proofs/LawsUnique.antt).
 #[cfg(feature = "alloc")]
 pub fn star(
@@ -171,24 +174,8 @@ pub fn star_of_bytes(
     area_a: u32,
     area_b: u32,
 ) -> Result<Vec<[u8; LABEL_BYTES]>, Refusal> {
-    // never more labels than ends (`joined-few`, crates/star/proofs/LawsFew.antt)
-    let most = ends.len() / END_BYTES;
-    let mut labels = vec![[0; LABEL_BYTES]; most.min(MOST_ENDS)];
-    let count = star_into(ends, area_a, area_b, labels.as_flattened_mut())?;
-    labels.truncate(count);
-    Ok(labels)
-}
-
-/// The same into a lent buffer: how many labels there are, seven bytes for each in its front, and every other byte as it
-/// was.
-///
-/// Refused, and no byte changed: as [`star_of_bytes`]; then 12 where they don't fit. Promised: `starBytesCall`,
-/// crates/misonkandi/specs/Stars.antt.
-pub fn star_into(
-    ends: &[u8],
-    area_a: u32,
-    area_b: u32,
-    labels: &mut [u8],
-) -> Result<usize, Refusal> {
-    answered(c::star(ends, area_a, area_b, labels)).map(|count| count as usize)
+    let mut labels = [0; MOST_ENDS * LABEL_BYTES];
+    let count = answered(c::star(ends, area_a, area_b, &mut labels))?;
+    let (whole, _) = labels.as_chunks::<LABEL_BYTES>();
+    Ok(whole[..count as usize].to_vec())
 }

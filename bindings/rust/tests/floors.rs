@@ -1,8 +1,8 @@
 //! Floors: in one call, record by record, and in pieces cut anywhere, which must all say the same.
 
 use misonkandi::{
-    CoordPos, EdgeEnd, Floor, IntersectionMatrix, Label, MOST_RECORD_ENDS, PIECES_BYTES, Pieces,
-    Record, Refusal, Sides, floor,
+    CoordPos, EdgeEnd, Floor, IntersectionMatrix, Label, MOST_ENDS, MOST_RECORD_BYTES,
+    PIECES_BYTES, Pieces, Record, Refusal, Sides, floor,
 };
 
 const START: [u8; 9] = [0, 0, 0, 0, 0, 0, 0, 0, 3];
@@ -243,9 +243,9 @@ fn the_longest_records_of_version_1_cut_anywhere() {
         dx: 1,
         dy: 1,
         label: line,
-    }; MOST_RECORD_ENDS];
+    }; MOST_ENDS];
     let most = Record::node([CoordPos::Inside; 2], [None, None], &ends).expect("32 ends");
-    assert_eq!(most.len(), 489);
+    assert_eq!(most.len(), MOST_RECORD_BYTES);
     for (length, refusal) in [
         (488, Refusal::Length),
         (502, Refusal::Ends),

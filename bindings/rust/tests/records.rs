@@ -1,8 +1,8 @@
 //! The encoder of records: its bytes against bytes written by hand, and what it refuses against what those would be.
 
 use misonkandi::{
-    CoordPos, EdgeEnd, IntersectionMatrix, Label, MOST_ENDS, MOST_RECORD_BYTES, MOST_RECORD_ENDS,
-    Record, Refusal, Sides, large_node_record, star, star_into, star_of_bytes,
+    CoordPos, EdgeEnd, IntersectionMatrix, Label, MOST_ENDS, MOST_RECORD_BYTES, Record, Refusal,
+    Sides,
 };
 
 const ON: [CoordPos; 2] = [CoordPos::OnBoundary; 2];
@@ -102,67 +102,7 @@ fn a_node_is_refused_as_its_bytes_would_be() {
     for count in [33, 255, 256, 288, 70_000] {
         assert_eq!(refused(&vec![none; count]), Refusal::Ends);
     }
-    let most = Record::node(ON, AREAS, &[line; MOST_RECORD_ENDS]).expect("32 ends");
-    assert_eq!(IntersectionMatrix::empty().pour_record(&most), Ok(489));
-}
-
-/// Request R-11: version 2 has a count of two bytes and up to 600 ends.
-#[test]
-fn records_of_version_2() {
-    let line = end(1, 0, false, [1, 0, 0], [2, 0, 0]);
-    for count in [0, 1, 32, 33, 255, 256, 257, 599, MOST_ENDS] {
-        let ends = vec![line; count];
-        let bytes = large_node_record(ON, AREAS, &ends).expect("a good record");
-        assert_eq!(bytes.len(), 10 + 15 * count);
-        let mut poured = IntersectionMatrix::empty();
-        assert_eq!(poured.pour_record(&bytes), Ok(bytes.len()));
-        if count <= MOST_RECORD_ENDS {
-            let first = Record::node(ON, AREAS, &ends).expect("a good record");
-            let mut as_first = IntersectionMatrix::empty();
-            assert_eq!(as_first.pour_record(&first), Ok(first.len()));
-            assert_eq!(as_first, poured);
-        } else {
-            assert_eq!(Record::node(ON, AREAS, &ends), Err(Refusal::Ends));
-        }
-    }
-    let most = large_node_record(ON, AREAS, &vec![line; MOST_ENDS]).expect("600 ends");
+    let most = Record::node(ON, AREAS, &[line; MOST_ENDS]).expect("32 ends");
     assert_eq!(most.len(), MOST_RECORD_BYTES);
-    let none = end(0, 0, true, [1, 0, 0], [0; 3]);
-    for count in [601, 65_536, 70_000] {
-        assert_eq!(
-            large_node_record(ON, AREAS, &vec![none; count]),
-            Err(Refusal::Ends)
-        );
-    }
-    assert_eq!(
-        large_node_record(ON, AREAS, &[line, none]),
-        Err(Refusal::Direction)
-    );
-}
-
-/// A star's labels stand in the front of what is lent, and nothing else changes.
-#[test]
-fn labels_in_the_front_of_their_room() {
-    let east = end(1, 0, false, [1, 0, 0], [2, 0, 0]).bytes();
-    let north = end(0, 1, false, [2, 0, 0], [1, 0, 0]).bytes();
-    let both = [east, north].concat();
-    let mut room = [7; 16];
-    assert_eq!(star_into(&both, 0, 0, &mut room), Ok(2));
-    assert_eq!(room, [0, 1, 0, 0, 2, 0, 0, 0, 2, 0, 0, 1, 0, 0, 7, 7]);
-    let mut room = [7; 13];
-    assert_eq!(star_into(&both, 0, 0, &mut room), Err(Refusal::NoRoom));
-    assert_eq!(
-        star_into(&both, 4, 0, &mut room),
-        Err(Refusal::PositionCode)
-    );
-    assert_eq!(room, [7; 13]);
-    assert_eq!(star_into(&[], 0, 0, &mut []), Ok(0));
-    assert_eq!(star_of_bytes(&east.repeat(601), 0, 0), Err(Refusal::Ends));
-    assert_eq!(
-        star_of_bytes(&east.repeat(600), 0, 0),
-        Ok(vec![[0, 1, 0, 0, 1, 0, 0]])
-    );
-    let around = |k: i32| end(1000, k, false, [1, 0, 0], [1, 0, 0]);
-    let fan: Vec<_> = (0..600).map(around).collect();
-    assert_eq!(star(&fan, None, None).map(|labels| labels.len()), Ok(600));
+    assert_eq!(IntersectionMatrix::empty().pour_record(&most), Ok(489));
 }

@@ -5,16 +5,13 @@ use std::collections::BTreeMap;
 use std::fs;
 
 use misonkandi::{
-    CoordPos, END_BYTES, EdgeEnd, IntersectionMatrix, LABEL_BYTES, Label, Outline, Pieces, Place,
-    Predicate, Refusal, Shape, ShapeKind, Verdict, bundle, bundle_of_bytes, convert_record,
-    convert_report, floor, point_in_outline, read_wkt, relate_coded, star, star_into,
-    star_of_bytes, write_wkt,
+    CoordPos, END_BYTES, EdgeEnd, IntersectionMatrix, LABEL_BYTES, Label, MOST_ENDS, Outline,
+    Pieces, Place, Predicate, Refusal, Shape, ShapeKind, Verdict, bundle, bundle_of_bytes,
+    convert_report, floor, point_in_outline, read_wkt, relate_coded, star, star_of_bytes,
+    write_wkt,
 };
 
 const FOLDER: &str = concat!(env!("CARGO_MANIFEST_DIR"), "/../../crates/replay/");
-
-/// The room that a star is lent, for 32 labels.
-const ROOM: usize = 224;
 
 /// What a predicate's row is where there is none. The wrappers' types leave no way to ask for it but by a name.
 const NO_SUCH_ROW: u32 = 0xFFFF_FFFF;
@@ -219,8 +216,7 @@ fn ends_of(bytes: &[u8]) -> Option<Vec<EdgeEnd>> {
     rest.is_empty().then(|| ends.iter().map(end).collect())?
 }
 
-/// B, K: ends as bytes and, where the bytes spell some, with types. A refused call answers no label. A star has room for 32
-/// labels, nines before; a line leaves off what stands behind them.
+/// B, K: ends as bytes and, where the bytes spell some, with types. A refused call answers no label.
 fn ends_case(kind: char, case: &Case) {
     let typed = ends_of(&case.given);
     if kind == 'B' {
@@ -231,23 +227,19 @@ fn ends_case(kind: char, case: &Case) {
         assert!(typed.is_none_or(|ends| bundle(&ends) == label));
         return;
     }
-    let mut room = [9; ROOM];
-    let lent = star_into(&case.given, case.a, case.b, &mut room);
-    case.says(lent.map(|count| count as u32));
-    let (front, behind) = room.split_at(LABEL_BYTES * lent.unwrap_or(0));
-    assert!(behind.iter().all(|byte| *byte == 9));
-    case.holds(if lent.is_ok() { front } else { &room });
     let answer = star_of_bytes(&case.given, case.a, case.b);
-    match lent {
-        Err(Refusal::NoRoom) => {
-            let labels = answer.as_ref().expect("room for all");
-            assert!(labels.len() > ROOM / LABEL_BYTES);
-        }
-        _ => {
-            let told = answer.as_deref().map(|labels| labels.as_flattened());
-            assert_eq!(told.map_err(|refusal| *refusal), lent.map(|_| front));
-        }
+    case.says(
+        answer
+            .as_ref()
+            .map(|labels| labels.len() as u32)
+            .map_err(|&refusal| refusal),
+    );
+    let mut written = [9; LABEL_BYTES * MOST_ENDS];
+    if let Ok(labels) = &answer {
+        written.fill(0);
+        written[..LABEL_BYTES * labels.len()].copy_from_slice(labels.as_flattened());
     }
+    assert_eq!(written, case.due());
     let areas = [case.a, case.b].map(|code| CoordPos::of_code(code.try_into().unwrap_or(4)));
     if let (Some(ends), [Some(a), Some(b)]) = (typed, areas) {
         let label = |bytes: &[u8; LABEL_BYTES]| Label::of_bytes(*bytes).expect("a label");
@@ -256,8 +248,7 @@ fn ends_case(kind: char, case: &Case) {
     }
 }
 
-/// N, D, E, F, C, Z: a record poured; a report read, written in its long and its short form, converted; a record
-/// converted.
+/// N, D, E, F, C: a record poured; a report read, written in its long and its short form, converted.
 fn record_case(kind: char, case: &Case) {
     let mut matrix = case.matrix();
     match kind {
@@ -275,13 +266,6 @@ fn record_case(kind: char, case: &Case) {
             let mut given = case.given.clone();
             let (report, buffer) = given.split_at_mut(case.dimension.into());
             let answer = convert_report(report, buffer, case.offset());
-            case.says(answer.map(|used| used as u32));
-            case.holds(&given);
-        }
-        'Z' => {
-            let mut given = case.given.clone();
-            let (record, buffer) = given.split_at_mut(case.a as usize);
-            let answer = convert_record(record, buffer, case.b as usize);
             case.says(answer.map(|used| used as u32));
             case.holds(&given);
         }
@@ -445,7 +429,7 @@ fn every_stored_answer() {
             'M' | 'W' | 'T' | 'R' => text_case(kind, &case),
             'O' | 'X' | 'S' | 'L' => cell_case(kind, &case),
             'B' | 'K' => ends_case(kind, &case),
-            'N' | 'D' | 'E' | 'F' | 'C' | 'Z' => record_case(kind, &case),
+            'N' | 'D' | 'E' | 'F' | 'C' => record_case(kind, &case),
             'A' | 'Y' => floor_case(kind, &case),
             'G' => place_case(&case),
             'I' => outline_case(&case),
