@@ -75,7 +75,7 @@ enum misonkandi_refusals {
     MISONKANDI_REFUSAL_MISSING_LEFT = 9,    /* for A or for B, some area bundle has a left and some only a right */
     MISONKANDI_REFUSAL_NOT_NINE_BYTES = 10, /* text or pattern not nine bytes */
     MISONKANDI_REFUSAL_BAD_BYTE = 11,       /* bad byte in a text, pattern or report; the place is the first one's */
-    MISONKANDI_REFUSAL_NO_ROOM = 12,        /* offset beyond the buffer, or fewer bytes from it than are written */
+    MISONKANDI_REFUSAL_NO_ROOM = 12,        /* offset beyond the buffer, or fewer bytes there than are written */
     MISONKANDI_REFUSAL_NOT_A_PLACE = 13,    /* coordinate not finite, box without min < max on an axis, kind above 1 */
     MISONKANDI_REFUSAL_TOP_BITS = 14,       /* one of the top six bits of a short report's cells set */
     MISONKANDI_REFUSAL_CORNER_COUNT = 16,   /* wrong count of corners, or half a corner left over; no such shape */
@@ -305,22 +305,27 @@ uint32_t misonkandi_write_wkt(uint32_t kind, const int32_t *xy, size_t numbers, 
  *   - Then every position still none becomes Outside if any line bundle of the star is OnBoundary for that geometry;
  *     else the node's area position, or Outside if that is none (the geometry is no area). A line's label has no sides.
  *
- * Both calls check as a record does: 4 if the bytes are no whole ends; 5; for a star 6, an area position above 3; each
- * end in turn 8, its label's kind 7, its codes 6, its sides 7; last, for a star, 9.
+ * Both calls check as a record does: 4 if the bytes are no whole ends; 5, above 600 ends; for a star 6, an area position
+ * above 3; each end in turn 8, its label's kind 7, its codes 6, its sides 7; then, for a star, 9, and last 12.
  */
 #define MISONKANDI_LABEL_BYTES 7
 #define MISONKANDI_END_BYTES 15
-#define MISONKANDI_MOST_ENDS 32
+
+/* The most ends of a call and of a node in version 2, and those of a node in version 1. */
+#define MISONKANDI_MOST_ENDS 600
+#define MISONKANDI_MOST_ENDS_OF_VERSION_1 32
 
 enum misonkandi_label_kinds { MISONKANDI_LINE = 0, MISONKANDI_AREA = 1 };
 
 /* Joins all ends into one label, whatever their directions: 0 and the label written, or a refusal. */
 uint32_t misonkandi_bundle(const uint8_t *ends, size_t count, uint8_t label[7]);
 
-/* The completed labels of the star of these ends, in order: how many (0 to 32), with seven bytes written for each and
- * zeros after them up to 32 * 7; or a refusal. The area positions are the node's against A's and B's area, none for a
- * geometry that is no area. */
-uint32_t misonkandi_star(const uint8_t *ends, size_t count, uint32_t area_a, uint32_t area_b, uint8_t labels[224]);
+/* The completed labels of the star of these ends, in order: how many (0 to 600), seven bytes for each in the front of a
+ * buffer of `room` bytes, every other byte as it was; or a refusal and no byte written, last 12 if the labels don't fit.
+ * There are at most as many labels as ends, so seven bytes for each end are room enough. The area positions are the
+ * node's against A's and B's area, none for a geometry that is no area. */
+uint32_t misonkandi_star(const uint8_t *ends, size_t count, uint32_t area_a, uint32_t area_b, uint8_t *labels,
+                         size_t room);
 
 /* ---- Plan records ----
  *

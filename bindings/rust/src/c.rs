@@ -78,7 +78,8 @@ mod declared {
             count: usize,
             area_a: u32,
             area_b: u32,
-            labels: &mut [u8; 224],
+            labels: *mut u8,
+            room: usize,
         ) -> u32;
         pub fn misonkandi_record(cells: &mut [u8; 9], bytes: *const u8, count: usize) -> u32;
         pub fn misonkandi_floor(
@@ -180,9 +181,11 @@ pub fn bundle(ends: &[u8], label: &mut [u8; 7]) -> u32 {
     unsafe { declared::misonkandi_bundle(ends.as_ptr(), ends.len(), label) }
 }
 
-pub fn star(ends: &[u8], area_a: u32, area_b: u32, labels: &mut [u8; 224]) -> u32 {
-    // SAFETY: pointer and count are those of one slice, lent to be read until the call ends; the labels lie elsewhere.
-    unsafe { declared::misonkandi_star(ends.as_ptr(), ends.len(), area_a, area_b, labels) }
+pub fn star(ends: &[u8], area_a: u32, area_b: u32, labels: &mut [u8]) -> u32 {
+    let (start, room) = (labels.as_mut_ptr(), labels.len());
+    // SAFETY: each pointer and count are those of one slice. The ends are lent to be read until the call ends, the
+    // labels are lent to nobody else until then, and so lie elsewhere.
+    unsafe { declared::misonkandi_star(ends.as_ptr(), ends.len(), area_a, area_b, start, room) }
 }
 
 pub fn record(cells: &mut [u8; 9], bytes: &[u8]) -> u32 {

@@ -1,7 +1,7 @@
 //! Floors: in one call, record by record, and in pieces cut anywhere, which must all say the same.
 
 use misonkandi::{
-    CoordPos, EdgeEnd, Floor, IntersectionMatrix, Label, MOST_ENDS, MOST_RECORD_BYTES,
+    CoordPos, EdgeEnd, Floor, IntersectionMatrix, Label, MOST_ENDS_OF_VERSION_1, MOST_RECORD_BYTES,
     PIECES_BYTES, Pieces, Record, Refusal, Sides, floor,
 };
 
@@ -197,7 +197,7 @@ fn node_of_lines(count: u16) -> Vec<u8> {
 #[test]
 fn the_longest_records_of_version_2_cut_anywhere() {
     let most = node_of_lines(600);
-    assert_eq!(most.len(), 9010);
+    assert_eq!(most.len(), MOST_RECORD_BYTES);
     let mut a_byte_more = most.clone();
     a_byte_more[..2].copy_from_slice(&u16::to_be_bytes(9009));
     a_byte_more.push(0);
@@ -243,9 +243,9 @@ fn the_longest_records_of_version_1_cut_anywhere() {
         dx: 1,
         dy: 1,
         label: line,
-    }; MOST_ENDS];
+    }; MOST_ENDS_OF_VERSION_1];
     let most = Record::node([CoordPos::Inside; 2], [None, None], &ends).expect("32 ends");
-    assert_eq!(most.len(), MOST_RECORD_BYTES);
+    assert_eq!(most.len(), 489);
     for (length, refusal) in [
         (488, Refusal::Length),
         (502, Refusal::Ends),

@@ -5,8 +5,8 @@ use std::fs;
 
 use misonkandi::{
     CoordPos, Dimensions, END_BYTES, LABEL_BYTES, MOST_CONVERTED_BYTES, MOST_CORNERS, MOST_ENDS,
-    MOST_RECORD_BYTES, MOST_WKT_BYTES, NoSuchPredicate, PIECES_BYTES, Predicate, REPORT_BYTES,
-    Refusal, SHORT_REPORT_BYTES, ShapeKind,
+    MOST_ENDS_OF_VERSION_1, MOST_RECORD_BYTES, MOST_WKT_BYTES, NoSuchPredicate, PIECES_BYTES,
+    Predicate, REPORT_BYTES, Refusal, SHORT_REPORT_BYTES, ShapeKind,
 };
 
 const FOLDER: &str = env!("CARGO_MANIFEST_DIR");
@@ -195,6 +195,7 @@ fn the_header_s_numbers_are_the_crate_s() {
         ("MOST_CONVERTED_BYTES", MOST_CONVERTED_BYTES),
         ("MOST_CORNERS", MOST_CORNERS),
         ("MOST_ENDS", MOST_ENDS),
+        ("MOST_ENDS_OF_VERSION_1", MOST_ENDS_OF_VERSION_1),
         ("MOST_RECORD_BYTES", MOST_RECORD_BYTES),
         ("MOST_WKT_BYTES", MOST_WKT_BYTES),
         ("PIECES_BYTES", PIECES_BYTES),
