@@ -77,12 +77,18 @@ pub(crate) fn bundle(xs: &[i32], ys: &[i32], marks: &[u32], words: &[u32], out: 
     while i < n {
         let x = words[i];
         let m = mark_at(marks, x);
-        let s = same(xs, ys, w, x);
         out[count] = t;
+        i += 1;
+        if w / 1024 != x / 1024 {
+            count += 1;
+            t = m;
+            w = x;
+            continue;
+        }
+        let s = same(xs, ys, w, x);
         count += one(!s);
         t = pick(s, join(t, m), m);
         w = x;
-        i += 1;
     }
     out[count] = t;
     count + 1
