@@ -103,6 +103,11 @@ static uint32_t convert(const lendings *l) {
 static uint32_t convert_short(const lendings *l) {
     return misonkandi_convert_report(l->bytes, l->count, l->labels, 224, 224 - MISONKANDI_REPORT_BYTES);
 }
+/* A node grows by a byte, an edge by none; written at the end of the buffer. */
+static uint32_t convert_record(const lendings *l) {
+    size_t offset = l->room > l->count ? l->room - l->count - 1 : l->room;
+    return misonkandi_convert_record(l->bytes, l->count, l->buffer, l->room, offset);
+}
 static uint32_t read_wkt(const lendings *l) { return misonkandi_read_wkt(l->bytes, l->count, l->corners, l->answer); }
 static uint32_t write_wkt(const lendings *l) {
     return misonkandi_write_wkt(MISONKANDI_SHAPE_POLYGON, l->xy, l->count, l->buffer, l->room, 0);
@@ -156,6 +161,8 @@ static const struct {
     {"write_short", write_short, SHORT_REPORT, 12, 0},
     {"convert", convert, REPORT, 1, 0},
     {"convert, short", convert_short, SHORT_REPORT, 1, 0},
+    {"convert_record", convert_record, NODE, 1, 0},
+    {"convert_record, an edge", convert_record, EDGE, 1, 0},
     {"read_wkt", read_wkt, WKT, 19, 0},
     {"write_wkt", write_wkt, SHAPE, 16, 0},
 };
@@ -248,7 +255,7 @@ static uint32_t guarded_call(int k, const uint8_t *bytes, size_t count, int at_e
     if (given == OUTLINE || given == SHAPE)
         l.xy = (const int32_t *)lent(room[3], numbers_of(given), count * sizeof saw[0], at_end);
     else l.bytes = lent(room[3], bytes, count, at_end);
-    l.room = room_of(k, count);
+    l.room = given == SHAPE ? MISONKANDI_MOST_WKT_BYTES : calls[k].call == convert_record ? count + 1 : count;
     l.buffer = lent(room[4], nothing, l.room, at_end);
     l.corners = (int32_t *)lent(room[5], nothing, sizeof saw, at_end);
     l.answer = (uint64_t *)lent(room[6], nothing, (given == WKT ? 3 : 2) * sizeof *l.answer, at_end);
@@ -505,6 +512,71 @@ static void reports(void) {
         for (k = 0; k < sizeof large / sizeof large[0]; k++)
             one_offset(REPORT, room, large[k]), one_offset(SHORT_REPORT, room, large[k]);
     }
+}
+
+/* ---- Records converted ---- */
+
+enum { MOST_VERSION_TWO = 2 + 8 + 15 * 601 };
+
+/* A node of so many lines, in 97 directions, by its bytes: the count in one byte or in two. */
+static size_t write_node(uint8_t *to, unsigned version, unsigned count) {
+    unsigned base = version == 1 ? 7 : 8, length = base + 15 * count, k;
+    memset(to, 0, 2 + length);
+    to[0] = (uint8_t)(length >> 8), to[1] = (uint8_t)length, to[2] = (uint8_t)version, to[3] = MISONKANDI_NODE;
+    to[4] = MISONKANDI_INSIDE, to[5] = MISONKANDI_ON_BOUNDARY, to[7] = MISONKANDI_OUTSIDE;
+    if (version == 2) to[8] = (uint8_t)(count >> 8);
+    to[1 + base] = (uint8_t)count;
+    for (k = 0; k < count; k++) {
+        uint8_t *end = to + 2 + base + 15 * k;
+        end[3] = (uint8_t)(1 + 31 * k % 97), end[7] = (uint8_t)(97 - 31 * k % 97);
+        end[9] = (uint8_t)(1 + k % 3), end[12] = (uint8_t)(1 + k % 2);
+    }
+    return 2 + length;
+}
+
+/* One record converted into a buffer of just the room that it takes, into the end of a longer one, and where a byte is
+ * missing; record and buffer stand against a page that nobody may touch. */
+static void converted(const uint8_t *record, size_t count, const uint8_t *other, size_t written, const pages room[2]) {
+    uint8_t *bytes = lent(room[0], record, count, 1), *buffer;
+    SAME(misonkandi_convert_record(bytes, count, lent(room[1], other, 0, 1) - written, written, 0), written);
+    buffer = room[1].start + ROOM - written;
+    SAME(memcmp(buffer, other, written), 0);
+    memset(buffer - 9, 7, written + 9);
+    SAME(misonkandi_convert_record(bytes, count, buffer - 9, written + 9, 9), written);
+    SAME(memcmp(buffer, other, written), 0);
+    SAME(buffer[-1], 7);
+    memset(buffer - 9, 7, written + 9);
+    refused(misonkandi_convert_record(bytes, count, buffer, written, 1), MISONKANDI_REFUSAL_NO_ROOM, 0);
+    refused(misonkandi_convert_record(bytes, count, buffer, written, (size_t)-1), MISONKANDI_REFUSAL_NO_ROOM, 0);
+    SAME(buffer[0], 7), SAME(buffer[written - 1], 7);
+}
+
+/* There and back for every count that version 1 has; from 33 on the way back is 5, and 5 comes before 12. */
+static void conversions(void) {
+    static uint8_t one[MOST_VERSION_TWO], two[MOST_VERSION_TWO];
+    uint8_t edge[MOST_GIVEN], other[11], kept[4] = {7, 7, 7, 7};
+    pages room[2];
+    unsigned n;
+    room[0] = guarded(), room[1] = guarded();
+    for (n = 0; n <= 601; n++) {
+        uint8_t a[9] = MISONKANDI_START, b[9] = MISONKANDI_START;
+        size_t first = n <= 33 ? write_node(one, 1, n) : 0, second = write_node(two, 2, n);
+        if (n <= 32) {
+            converted(one, first, two, second, room), converted(two, second, one, first, room);
+            SAME(misonkandi_record(a, one, first), first), SAME(misonkandi_record(b, two, second), second);
+            SAME(memcmp(a, b, 9), 0);
+            continue;
+        }
+        if (n == 33) refused(misonkandi_convert_record(one, first, kept, 4, 0), MISONKANDI_REFUSAL_ENDS, 0);
+        if (n <= 600) SAME(misonkandi_record(b, two, second), second);
+        refused(misonkandi_convert_record(two, second, kept, 4, 5), MISONKANDI_REFUSAL_ENDS, 0);
+    }
+    SAME(kept[0], 7), SAME(kept[3], 7);
+    write_given(EDGE, edge), memcpy(other, edge, 11), other[2] = 2;
+    converted(edge, 11, other, 11, room), converted(other, 11, edge, 11, room);
+    SAME(write_node(two, 2, 32), MISONKANDI_MOST_CONVERTED_BYTES);
+    SAME(write_node(two, 2, 600), MISONKANDI_MOST_RECORD_BYTES);
+    munmap(room[0].start - ROOM, 3 * ROOM), munmap(room[1].start - ROOM, 3 * ROOM);
 }
 
 /* ---- Floors ---- */
@@ -964,6 +1036,7 @@ int main(void) {
     numbers();
     stars_and_versions();
     reports();
+    conversions();
     floors();
     outlines();
     shapes();

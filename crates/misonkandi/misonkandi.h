@@ -351,9 +351,9 @@ uint32_t misonkandi_star(const uint8_t *ends, size_t count, uint32_t area_a, uin
  * positions to 0, and each completed label of its star is poured. A label raises the cell of its two ons to 1 and, if
  * it is an area's, that of its two lefts and that of its two rights to 2. An isolated edge's label is poured as it is.
  *
- * Checked in this order: 1; a length below 2 is 4; 2; 3; a length below 7 (node; 8 in version 2) or not 9 (edge) is 4; 5,
- * above 32 ends (600 in version 2); a length not 7 + 15n (8 + 15n) is 4; the node's four positions 6; each end in turn 8,
- * its label's kind 7, its codes 6, its sides 7; last 9. An edge's label: kind 7, codes 6, sides 7.
+ * Checked in this order: 1; a length below 2 is 4; 2; 3; a length below 7 (a node's; 8 in version 2) or not 9 (an
+ * edge's) is 4; 5, above 32 ends (600 in version 2); a length not 7 + 15n (8 + 15n) is 4; the node's four positions 6;
+ * each end in turn 8, its label's kind 7, its codes 6, its sides 7; last 9. An edge's label: kind 7, codes 6, sides 7.
  */
 enum misonkandi_record_kinds { MISONKANDI_NODE = 1, MISONKANDI_EDGE = 2 };
 
@@ -367,12 +367,12 @@ uint32_t misonkandi_record(uint8_t cells[9], const uint8_t *bytes, size_t count)
 /* The most bytes that a converted record has: of 32 ends in version 2, 2 + 8 + 15 * 32. */
 #define MISONKANDI_MOST_CONVERTED_BYTES 490
 
-/* Reads a record of either version and writes it in the other one into a buffer of `room` bytes from `offset` on: the bytes
- * written, every other byte as it was. Those are one more than it has for a node of version 1, one less for a node of
- * version 2, 11 for an edge. Or a refusal and no byte written: the record's own, 1 to 9; then 5 for a node of version 2 with
- * more than 32 ends; then 12 if the offset lies beyond the buffer or fewer bytes follow it than are written. Bytes after
- * the record don't matter. What was written pours the same into every matrix, and converting it back gives the record's
- * bytes again. */
+/* Reads a record of either version and writes it in the other one into a buffer of `room` bytes from `offset` on: the
+ * bytes written, every other byte as it was. Those are one more than the record has for a node of version 1, one less
+ * for a node of version 2, 11 for an edge. Or a refusal and no byte written: the record's own, 1 to 9; then 5 for a
+ * node of version 2 with more than 32 ends; then 12 if the offset lies beyond the buffer or fewer bytes follow it than
+ * are written. Bytes after the record don't matter. What was written pours the same into every matrix, and converting
+ * it back gives the record's bytes again. */
 uint32_t misonkandi_convert_record(const uint8_t *bytes, size_t count, uint8_t *buffer, size_t room, size_t offset);
 
 /* ---- Floors ----

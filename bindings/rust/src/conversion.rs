@@ -11,10 +11,10 @@ pub const MOST_CONVERTED_BYTES: usize = 2 + 8 + 15 * 32;
 ///
 /// What was written pours the same into every matrix, and converting it back gives the record's bytes again.
 ///
-/// Refused, and no byte changed: as [`pour_record`](crate::IntersectionMatrix::pour_record), 1 to 9; then 5 for a node of
-/// version 2 with more than 32 ends; then 12 where the offset lies beyond the buffer or fewer bytes follow it than are to
-/// be written. Promised: `convertOf`, `convertedOf`, crates/versions/specs/Converting.antt; that it pours the same, and
-/// back again, in crates/versions/proofs/LawsTrip.antt.
+/// Refused, and no byte changed: as [`pour_record`](crate::IntersectionMatrix::pour_record), 1 to 9; then 5 for a node
+/// of version 2 with more than 32 ends; then 12 where the offset lies beyond the buffer or fewer bytes follow it than
+/// are to be written. Promised: `convertOf`, `convertedOf`, crates/versions/specs/Converting.antt; that it pours the same,
+/// and back again, in crates/versions/proofs/LawsTrip.antt.
 ///
 /// ```
 /// use misonkandi::{Refusal, convert_record};

@@ -5,8 +5,8 @@ use std::fs;
 
 use misonkandi::{
     CoordPos, Dimensions, END_BYTES, LABEL_BYTES, MOST_CONVERTED_BYTES, MOST_CORNERS, MOST_ENDS,
-    MOST_ENDS_OF_VERSION_1, MOST_RECORD_BYTES, MOST_WKT_BYTES, NoSuchPredicate, PIECES_BYTES,
-    Predicate, REPORT_BYTES, Refusal, SHORT_REPORT_BYTES, ShapeKind,
+    MOST_RECORD_BYTES, MOST_WKT_BYTES, NoSuchPredicate, PIECES_BYTES, Predicate, REPORT_BYTES,
+    Refusal, SHORT_REPORT_BYTES, ShapeKind,
 };
 
 const FOLDER: &str = env!("CARGO_MANIFEST_DIR");
@@ -64,7 +64,7 @@ fn the_header_s_functions_are_the_crate_s() {
     let (header, crate_s) = (header(), read("src/c.rs"));
     let names = declared(&header);
     assert_eq!(names, declared(&crate_s));
-    assert_eq!(names.len(), 27);
+    assert_eq!(names.len(), 28);
 }
 
 /// The lines between the braces of a struct, without what is said of them.

@@ -1,5 +1,6 @@
--- The numbers of converting in their order. Issue of request R-11: "the record's own refusals (9 too), then 5 for back above 32, then 12".
--- The laws of proofs/LawsConvertNumbers.antt say that the number answered is this one.
+-- The numbers of converting in their order. Request R-11: "Converting takes either version and writes from an offset: back above 32 is
+-- 5, then no room is 12." The record's own number comes first, 9 too (docs/DECISIONS.md, 121). The laws of
+-- proofs/LawsConvertNumbers.antt say that the number answered is this one.
 use Prim.Native.Nat.{ℕ, _+_, _*_}
 use mathlib.Core.Bool.{Bool, cond, _&&_}
 use mathlib.Core.List.{List}

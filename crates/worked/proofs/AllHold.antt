@@ -1,8 +1,10 @@
 -- Document 01's worked examples hold: one statement over one list, and one over its edges. Each entry by computing the definition that it
 -- is an instance of, so a changed definition breaks it. Assumes nothing.
-use mathlib.Core.Path.{refl}
+use mathlib.Core.Path.{_≡_, refl}
 use mathlib.Core.Bool.{true, false}
+use mathlib.Core.List.{_++_}
 use lib.Ieee.{lt, eq, ofInt}
+use Rattle.de9im.specs.declared.answer.Answer.the-variants.{Used}
 use Rattle.de9im.specs.declared.refusal.Refusal.the-variants.{BadByte}
 use Rattle.de9im.specs.Bytes.{bytes}
 use Rattle.de9im.specs.Letters.{letterOf}
@@ -32,7 +34,8 @@ use Rattle.verdict.specs.declared.Verdict.the-variants.{Open, NoForGood}
 use Rattle.verdict.specs.declared.pattern.Judged.the-variants as J
 use Rattle.verdict.proofs.LawsLoop.{given}
 use Rattle.worked.specs.Example.{Every, none, _and_, cells}
-use Rattle.worked.specs.Examples.{p1-to-p14, printed, edges, collapsing, sixHundred, versionTwo}
+use Rattle.worked.specs.Examples.{p1-to-p14, printed, many, edges, collapsing, sixHundred, nodeOfMost, versionTwo}
+use Rattle.worked.proofs.LawsMany.{many-behind}
 
 -- the verdict's two: a bad byte; and by what the letters can still come to
 p7 : Judges (J.Refused (BadByte 2)) (bytes "T*X******") (cells "FFFFFFFF2")
@@ -77,8 +80,15 @@ unfolding bundledOf starCall completedStar checkedOf firstFault orderOf count on
     keep startOf walkFrom walkOf any missingLeft filledOf
 six-hundred-hold = refl and refl and refl and refl and none
 
+-- 600 ends as the law reads them, not byte by byte
+most-pass : recordOf (cells "FFFFFFFF2") (nodeOfMost ++ many 600) ≡ record { answer = Used 9010; cells = cells "1FFF0FFF2" }
+unfolding recordOf saidOf formOf edgeOf nodeOf nodeBody nodeAt pouredStar completedStar cellLetterOf
+    orderOf count onJoined sideJoined halfJoined joinOf insertDir dirsFrom keep startOf walkFrom walkOf any missingLeft filledOf
+    pourNode pourLabel pourLabels
+most-pass = rw (many-behind nodeOfMost 600) refl
+
 pub version-two-holds : Every versionTwo
 unfolding recordOf saidOf formOf edgeOf nodeOf nodeBody nodeAt pouredStar completedStar readEnds endAt dirAt labelAt sidesAt cellLetterOf
     orderOf count onJoined sideJoined halfJoined joinOf insertDir dirsFrom keep startOf walkFrom walkOf any missingLeft filledOf
     pourNode pourLabel pourLabels
-version-two-holds = refl and refl and refl and refl and refl and refl and refl and none
+version-two-holds = refl and most-pass and refl and refl and refl and refl and refl and refl and none

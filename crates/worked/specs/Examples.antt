@@ -179,11 +179,15 @@ sixHundred =
     star-gives (replicate 600 boundaryEnd) None None (line Inside ∷ []) ∷
     star-refused (replicate 601 boundaryEnd) None None Ends ∷ []
 
--- and of a record of version 2: 503 and 9023 bytes follow the length, 8 + 15 * 33 and 8 + 15 * 601. 257 ends, counted in two bytes, are
--- not the one that its length is for; seven bytes are too few for a node; there is no version 3
+-- and of a record of version 2: 503, 9008 and 9023 bytes follow the length, 8 + 15 * 33, 8 + 15 * 600 and 8 + 15 * 601. 257 ends, counted
+-- in two bytes, are not the one that its length is for; seven bytes are too few for a node; there is no version 3
+abbrev pub nodeOfMost : List ℕ
+nodeOfMost = 35 ∷ 48 ∷ 2 ∷ 1 ∷ 2 ∷ 2 ∷ 0 ∷ 0 ∷ 2 ∷ 88 ∷ []
+
 abbrev pub versionTwo : List Example
 versionTwo =
     record-gives "FFFFFFFF2" ((1 ∷ 247 ∷ 2 ∷ 1 ∷ 2 ∷ 2 ∷ 0 ∷ 0 ∷ 0 ∷ 33 ∷ []) ++ many 33) 505 "FFFF1FFF2" ∷
+    record-gives "FFFFFFFF2" (nodeOfMost ++ many 600) 9010 "1FFF0FFF2" ∷
     record-refused "FFFFFFFF2" ((35 ∷ 63 ∷ 2 ∷ 1 ∷ 2 ∷ 2 ∷ 0 ∷ 0 ∷ 2 ∷ 89 ∷ []) ++ many 601) Ends ∷
     record-refused "FFFFFFFF2" ((0 ∷ 23 ∷ 2 ∷ 1 ∷ 2 ∷ 2 ∷ 0 ∷ 0 ∷ 1 ∷ 1 ∷ []) ++ many 1) Length ∷
     record-gives "FFFFFFFF2" (0 ∷ 8 ∷ 2 ∷ 1 ∷ 1 ∷ 1 ∷ 0 ∷ 0 ∷ 0 ∷ 0 ∷ []) 10 "0FFFFFFF2" ∷
