@@ -93,9 +93,6 @@ static uint32_t write_report(const lendings *l) { return misonkandi_write_report
 static uint32_t write_short(const lendings *l) {
     return misonkandi_write_short_report(l->cells, l->buffer, l->count, 0);
 }
-static uint32_t convert_record(const lendings *l) {
-    return misonkandi_convert_record(l->bytes, l->count, l->buffer, l->room, 0);
-}
 static uint32_t convert(const lendings *l) {
     return misonkandi_convert_report(l->bytes, l->count, l->buffer, l->count, 0);
 }
@@ -148,7 +145,6 @@ static const struct {
     {"record, a node", record, NODE, 1, 1},
     {"record, 600", record, TWO, 1, 1},
     {"record, an edge", record, EDGE, 1, 1},
-    {"convert_record", convert_record, NODE, 1, 0},
     {"floor", whole_floor, FLOOR, 0, 1},
     {"floor, 600", whole_floor, LONG_FLOOR, 0, 1},
     {"start", begin, FLOOR, 0, 0},
@@ -240,7 +236,7 @@ static const uint8_t start[9] = MISONKANDI_START;
 static size_t room_of(int k, size_t count) {
     if (calls[k].given == SHAPE) return MISONKANDI_MOST_WKT_BYTES;
     if (calls[k].call == star) return count / MISONKANDI_END_BYTES * MISONKANDI_LABEL_BYTES;
-    return calls[k].call == convert_record ? MISONKANDI_MOST_CONVERTED_BYTES : count;
+    return calls[k].call == convert_record ? count + 1 : count;
 }
 
 /* One call with its bytes cut to a count, all that it is lent at the end of a room or at its beginning. */
@@ -255,7 +251,7 @@ static uint32_t guarded_call(int k, const uint8_t *bytes, size_t count, int at_e
     if (given == OUTLINE || given == SHAPE)
         l.xy = (const int32_t *)lent(room[3], numbers_of(given), count * sizeof saw[0], at_end);
     else l.bytes = lent(room[3], bytes, count, at_end);
-    l.room = given == SHAPE ? MISONKANDI_MOST_WKT_BYTES : calls[k].call == convert_record ? count + 1 : count;
+    l.room = room_of(k, count);
     l.buffer = lent(room[4], nothing, l.room, at_end);
     l.corners = (int32_t *)lent(room[5], nothing, sizeof saw, at_end);
     l.answer = (uint64_t *)lent(room[6], nothing, (given == WKT ? 3 : 2) * sizeof *l.answer, at_end);
@@ -430,33 +426,12 @@ static void damaged_two(void) {
     SAME(memcmp(cells, start, 9), 0);
 }
 
-/* A record of version 1 as one of version 2 and back, behind an offset: the first bytes again, every other byte as it
- * was, and both pour the same. */
-static void there_and_back(enum given given) {
-    uint8_t record[MOST_GIVEN], two[520], one[520], around[520], cells[2][9];
-    size_t whole = write_given(given, record), more = given == EDGE ? whole : whole + 1;
-    memset(two, 7, sizeof two), memset(one, 7, sizeof one), memset(around, 7, sizeof around);
-    refused(misonkandi_convert_record(record, whole, two, 3 + more - 1, 3), MISONKANDI_REFUSAL_NO_ROOM, 0);
-    refused(misonkandi_convert_record(record, whole, two, sizeof two, (size_t)-1), MISONKANDI_REFUSAL_NO_ROOM, 0);
-    SAME(memcmp(two, around, sizeof two), 0);
-    SAME(misonkandi_convert_record(record, whole, two, 3 + more, 3), more);
-    SAME(two[2], 7), SAME(two[3 + 2], 2), SAME(two[3 + more], 7);
-    SAME(misonkandi_convert_record(two + 3, sizeof two - 3, one, sizeof one, 5), whole);
-    memcpy(around + 5, record, whole);
-    SAME(memcmp(one, around, sizeof one), 0);
-    memcpy(cells[0], start, 9), memcpy(cells[1], start, 9);
-    SAME(misonkandi_record(cells[0], record, whole), whole);
-    SAME(misonkandi_record(cells[1], two + 3, sizeof two - 3), more);
-    SAME(memcmp(cells[0], cells[1], 9), 0);
-}
-
 static void stars_and_versions(void) {
     static const unsigned counts[] = {0, 1, 2, 31, 32, 33, 64, 599, 600}; /* none of which 7 divides */
     size_t k;
     refused_stars();
     for (k = 0; k < sizeof counts / sizeof counts[0]; k++) one_star(counts[k]);
     damaged_two();
-    there_and_back(NODE), there_and_back(EDGE);
 }
 
 /* ---- Reports ---- */
