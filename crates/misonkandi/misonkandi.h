@@ -15,11 +15,11 @@
  * floor that comes in pieces is kept in a misonkandi_pieces of the caller's), so any threads may call at once, each on
  * bytes of its own. Of the C library no more is needed than memcpy, memmove and memset.
  *
- * Stack: MISONKANDI_STACK_BYTES are enough for any call. misonkandi_push takes most, about 3,400 bytes,
- * misonkandi_write_wkt 1,900, misonkandi_read_wkt and misonkandi_bundle 1,700, misonkandi_floor and misonkandi_record 1,400,
- * misonkandi_star 1,100, misonkandi_start 600, each other less than 400: measured on aarch64,
- * on a painted stack (bindings/c/run.sh, which fails at more than MISONKANDI_STACK_BYTES). On x86-64 earlier forms
- * took up to 5,000, and misonkandi_point_in_outline 1,400. Only merging ends leads back to itself, six deep.
+ * Stack: MISONKANDI_STACK_BYTES are enough for any call. Those that read a node take most, whatever it is, and with 600
+ * ends misonkandi_push about 17,100 bytes, misonkandi_floor, misonkandi_record and misonkandi_convert_record 17,000,
+ * misonkandi_star 16,800; misonkandi_write_wkt takes 1,900, misonkandi_read_wkt 1,700, each other less than 400: measured
+ * on aarch64, on a painted stack (bindings/c/run.sh, which fails at more than MISONKANDI_STACK_BYTES). On x86-64 earlier
+ * forms took up to half as much again. Only merging ends leads back to itself, at most ten deep.
  */
 #ifndef MISONKANDI_H
 #define MISONKANDI_H
@@ -32,7 +32,7 @@
 #define MISONKANDI_VERSION_MINOR 2
 #define MISONKANDI_VERSION_PATCH 0
 
-#define MISONKANDI_STACK_BYTES 8192
+#define MISONKANDI_STACK_BYTES 32768
 
 #ifdef __cplusplus
 extern "C" {
