@@ -201,7 +201,7 @@ CASES = {
     # more than the buffer holds, 32 ends in the middle, and the last record raises a cell of its own
     'long.plan': (LONG + edge(area((NONE, E, NONE), (NONE, I, NONE))), answers('1F1FFF2F2')),
     'short.plan': (P1 + P1[:40], refused(1, 69)),
-    'version.plan': (P1 + record(2, 2, line(I, I)), refused(2, 69)),
+    'version.plan': (P1 + record(3, 2, line(I, I)), refused(2, 69)),
     'kind.plan': (P1 + record(1, 3, line(I, I)), refused(3, 69)),
     'length.plan': (P1 + b'\0\0', refused(4, 69)),
     'ends.plan': (MANY + node(I, E, [WEST] * 33), refused(5, len(MANY))),

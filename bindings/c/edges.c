@@ -74,7 +74,8 @@ static uint32_t relate(const lendings *l) {
 }
 static uint32_t point_in_outline(const lendings *l) { return misonkandi_point_in_outline(l->xy, l->count, 1, 0); }
 static uint32_t bundle(const lendings *l) { return misonkandi_bundle(l->bytes, l->count, l->text); }
-static uint32_t star(const lendings *l) { return misonkandi_star(l->bytes, l->count, 1, 0, l->labels); }
+/* Room for the labels of all whole ends. */
+static uint32_t star(const lendings *l) { return misonkandi_star(l->bytes, l->count, 1, 0, l->buffer, l->room); }
 static uint32_t record(const lendings *l) { return misonkandi_record(l->cells, l->bytes, l->count); }
 static uint32_t whole_floor(const lendings *l) {
     return misonkandi_floor(l->cells, l->bytes, l->count, l->answer);
@@ -99,16 +100,22 @@ static uint32_t convert(const lendings *l) {
 static uint32_t convert_short(const lendings *l) {
     return misonkandi_convert_report(l->bytes, l->count, l->labels, 224, 224 - MISONKANDI_REPORT_BYTES);
 }
+/* A node grows by a byte, an edge by none; written at the end of the buffer. */
+static uint32_t convert_record(const lendings *l) {
+    size_t offset = l->room > l->count ? l->room - l->count - 1 : l->room;
+    return misonkandi_convert_record(l->bytes, l->count, l->buffer, l->room, offset);
+}
 static uint32_t read_wkt(const lendings *l) { return misonkandi_read_wkt(l->bytes, l->count, l->corners, l->answer); }
 static uint32_t write_wkt(const lendings *l) {
     return misonkandi_write_wkt(MISONKANDI_SHAPE_POLYGON, l->xy, l->count, l->buffer, l->room, 0);
 }
 
-/* The bytes that a call is given: a text, a predicate's name, ends, a record of a node or of an edge, a floor of both,
- * a shape's text, a report, long or short. Or the numbers of an outline or of a shape. */
+/* The bytes that a call is given: a text, a predicate's name, ends, a record of a node in version 1 or 2 or of an edge, a
+ * floor of both in version 1, one of the longest record of version 2, a shape's text, a report, long or short. Or the
+ * numbers of an outline or of a shape. */
 enum { NO_ROW = 8388607 }; /* MISONKANDI_NO_SUCH_ROW, read as a refusal */
-enum given { TEXT, NAME, ENDS, NODE, EDGE, FLOOR, OUTLINE, SHAPE, WKT, REPORT, SHORT_REPORT };
-enum { MOST_GIVEN = MISONKANDI_MOST_WKT_BYTES };
+enum given { TEXT, NAME, ENDS, MANY, NODE, TWO, EDGE, FLOOR, LONG_FLOOR, OUTLINE, SHAPE, WKT, REPORT, SHORT_REPORT };
+enum { MOST_ENDS = MISONKANDI_MOST_ENDS, MOST_GIVEN = MISONKANDI_MOST_RECORD_BYTES + 11 };
 
 static const struct {
     const char *name;
@@ -132,12 +139,17 @@ static const struct {
     {"relate_places", relate, TEXT, 0, 1},
     {"point_in_outline", point_in_outline, OUTLINE, 16, 0},
     {"bundle", bundle, ENDS, 0, 0},
+    {"bundle, 600", bundle, MANY, 0, 0},
     {"star", star, ENDS, 0, 0},
+    {"star, 600", star, MANY, 0, 0},
     {"record, a node", record, NODE, 1, 1},
+    {"record, 600", record, TWO, 1, 1},
     {"record, an edge", record, EDGE, 1, 1},
     {"floor", whole_floor, FLOOR, 0, 1},
+    {"floor, 600", whole_floor, LONG_FLOOR, 0, 1},
     {"start", begin, FLOOR, 0, 0},
     {"push", push, FLOOR, 0, 0},
+    {"push, 600", push, LONG_FLOOR, 0, 0},
     {"finish", finish, FLOOR, 0, 1},
     {"read_report", read_report, REPORT, 1, 1},
     {"write_report", write_report, REPORT, 12, 0},
@@ -145,21 +157,26 @@ static const struct {
     {"write_short", write_short, SHORT_REPORT, 12, 0},
     {"convert", convert, REPORT, 1, 0},
     {"convert, short", convert_short, SHORT_REPORT, 1, 0},
+    {"convert_record", convert_record, NODE, 1, 0},
+    {"convert_record, an edge", convert_record, EDGE, 1, 0},
     {"read_wkt", read_wkt, WKT, 19, 0},
     {"write_wkt", write_wkt, SHAPE, 16, 0},
 };
 enum { CALLS = sizeof calls / sizeof calls[0] };
 
-/* 32 ends in 32 directions, areas and lines by turns. */
-static void write_ends(uint8_t *to) {
+/* So many ends in as many directions, areas and lines by turns. 7 divides neither 32 nor 600, so each of the numbers
+ * below the count comes once. */
+static size_t write_ends(uint8_t *to, unsigned count) {
     static const uint8_t labels[2][7] = {{MISONKANDI_AREA, 2, 1, 3, 0, 0, 0}, {MISONKANDI_LINE, 0, 0, 0, 1, 0, 0}};
-    int k;
-    memset(to, 0, 32 * MISONKANDI_END_BYTES);
-    for (k = 0; k < 32; k++, to += MISONKANDI_END_BYTES) {
-        to[3] = (uint8_t)(1 + 7 * k % 32);
-        to[7] = (uint8_t)(32 - 7 * k % 32);
+    unsigned k;
+    memset(to, 0, count * MISONKANDI_END_BYTES);
+    for (k = 0; k < count; k++, to += MISONKANDI_END_BYTES) {
+        unsigned dx = 1 + 7 * k % count, dy = count - 7 * k % count;
+        to[2] = (uint8_t)(dx >> 8), to[3] = (uint8_t)dx;
+        to[6] = (uint8_t)(dy >> 8), to[7] = (uint8_t)dy;
         memcpy(to + 8, labels[k % 2], 7);
     }
+    return count * MISONKANDI_END_BYTES;
 }
 
 /* A saw of 64 corners: 63 along its teeth, each one high, and one far below. And 64 times the corner that takes the
@@ -191,14 +208,18 @@ static size_t write_longest(uint8_t to[MOST_GIVEN]) {
 /* The bytes of one kind at their full length; an outline's and a shape's are numbers, and no bytes. */
 static size_t write_given(enum given given, uint8_t to[MOST_GIVEN]) {
     static const uint8_t node[9] = {1, 231, 1, MISONKANDI_NODE, 2, 3, 1, 0, 32};
+    static const uint8_t two[10] = {35, 48, 2, MISONKANDI_NODE, 2, 3, 1, 0, 2, 88}; /* 9,008 and 600 */
     static const uint8_t edge[11] = {0, 9, 1, MISONKANDI_EDGE, MISONKANDI_AREA, 2, 1, 3, 2, 3, 1};
     switch (given) {
     case TEXT: memcpy(to, "210F21012", 9); return 9;
     case NAME: memcpy(to, "contains_properly", 17); return 17;
-    case ENDS: write_ends(to); return 480;
-    case NODE: memcpy(to, node, 9); write_ends(to + 9); return 489;
+    case ENDS: return write_ends(to, 32);
+    case MANY: return write_ends(to, MOST_ENDS);
+    case NODE: memcpy(to, node, 9); return 9 + write_ends(to + 9, 32);
+    case TWO: memcpy(to, two, 10); return 10 + write_ends(to + 10, MOST_ENDS);
     case EDGE: memcpy(to, edge, 11); return 11;
-    case FLOOR: memcpy(to, node, 9); write_ends(to + 9); memcpy(to + 489, edge, 11); return 500;
+    case FLOOR: write_given(NODE, to); memcpy(to + 489, edge, 11); return 500;
+    case LONG_FLOOR: write_given(TWO, to); memcpy(to + 9010, edge, 11); return 9021;
     case OUTLINE: case SHAPE: return MOST_NUMBERS;
     case WKT: return write_longest(to);
     case REPORT: memcpy(to, "\0\12\1" "210F21012", 12); return 12;
@@ -210,6 +231,14 @@ static size_t write_given(enum given given, uint8_t to[MOST_GIVEN]) {
 
 static const uint8_t start[9] = MISONKANDI_START;
 
+/* The room of a buffer: for the labels of all whole ends, for what is written of a shape or of a record, else as many
+ * bytes as are given. */
+static size_t room_of(int k, size_t count) {
+    if (calls[k].given == SHAPE) return MISONKANDI_MOST_WKT_BYTES;
+    if (calls[k].call == star) return count / MISONKANDI_END_BYTES * MISONKANDI_LABEL_BYTES;
+    return calls[k].call == convert_record ? count + 1 : count;
+}
+
 /* One call with its bytes cut to a count, all that it is lent at the end of a room or at its beginning. */
 enum { ROOMS = 8 };
 static uint32_t guarded_call(int k, const uint8_t *bytes, size_t count, int at_end, const pages room[ROOMS]) {
@@ -217,16 +246,17 @@ static uint32_t guarded_call(int k, const uint8_t *bytes, size_t count, int at_e
     enum given given = calls[k].given;
     lendings l;
     l.cells = lent(room[0], start, 9, at_end);
-    l.text = lent(room[1], nothing, given == ENDS ? 7 : 9, at_end);
+    l.text = lent(room[1], nothing, given == ENDS || given == MANY ? 7 : 9, at_end);
     l.labels = lent(room[2], nothing, 224, at_end);
     if (given == OUTLINE || given == SHAPE)
         l.xy = (const int32_t *)lent(room[3], numbers_of(given), count * sizeof saw[0], at_end);
     else l.bytes = lent(room[3], bytes, count, at_end);
-    l.room = given == SHAPE ? MISONKANDI_MOST_WKT_BYTES : count;
+    l.room = room_of(k, count);
     l.buffer = lent(room[4], nothing, l.room, at_end);
     l.corners = (int32_t *)lent(room[5], nothing, sizeof saw, at_end);
-    l.answer = (uint64_t *)lent(room[6], nothing, (given == FLOOR ? 2 : 3) * sizeof *l.answer, at_end);
-    l.state = (misonkandi_pieces *)lent(room[7], nothing, sizeof *l.state, at_end);
+    l.answer = (uint64_t *)lent(room[6], nothing, (given == WKT ? 3 : 2) * sizeof *l.answer, at_end);
+    l.state = (misonkandi_pieces *)(at_end ? room[7].start + ROOM - sizeof *l.state : room[7].start);
+    misonkandi_start(l.state, start);
     l.count = count;
     return calls[k].call(&l);
 }
@@ -280,21 +310,22 @@ static void refused(uint32_t word, unsigned number, unsigned place) {
 
 static const uint8_t *bytes_of(const char *text) { return (const uint8_t *)text; }
 
-/* Each number of the header from a call that gives it, and the order of misonkandi_star. */
+/* Each number of the header from a call that gives it. */
 static void numbers(void) {
     static const char *const names[MISONKANDI_ROWS] = {
         "disjoint", "intersects",        "within",  "contains", "equal_topo", "coveredby",
         "covers",   "contains_properly", "touches", "crosses",  "overlaps",
     };
     static const struct { int byte; uint8_t to; unsigned number; } damages[] = {
-        {0, 255, MISONKANDI_REFUSAL_SHORT},         {2, 2, MISONKANDI_REFUSAL_VERSION},
+        {0, 255, MISONKANDI_REFUSAL_SHORT},         {2, 3, MISONKANDI_REFUSAL_VERSION},
+        {2, 0, MISONKANDI_REFUSAL_VERSION},         {2, 2, MISONKANDI_REFUSAL_ENDS}, /* 8,192 of them, by two bytes */
         {3, 3, MISONKANDI_REFUSAL_KIND},            {1, 0, MISONKANDI_REFUSAL_LENGTH},
         {8, 33, MISONKANDI_REFUSAL_ENDS},           {4, 0, MISONKANDI_REFUSAL_POSITION_CODE},
         {7, 4, MISONKANDI_REFUSAL_POSITION_CODE},   {17, 2, MISONKANDI_REFUSAL_LABEL_KIND},
         {17, 0, MISONKANDI_REFUSAL_LABEL_KIND},     {9, 128, MISONKANDI_REFUSAL_DIRECTION},
         {19, 0, MISONKANDI_REFUSAL_MISSING_LEFT},
     };
-    uint8_t cells[9] = MISONKANDI_START, bytes[MOST_GIVEN], labels[224];
+    uint8_t cells[9] = MISONKANDI_START, bytes[MOST_GIVEN];
     size_t k;
     for (k = 0; k < sizeof damages / sizeof damages[0]; k++) {
         size_t whole = write_given(NODE, bytes);
@@ -311,12 +342,6 @@ static void numbers(void) {
     refused(misonkandi_relate_places(2, 0, 0, 1, 1, 0, 0, 0, 0, 0, cells), MISONKANDI_REFUSAL_NOT_A_PLACE, 0);
     refused(misonkandi_set(cells, 4, 0, 0), MISONKANDI_REFUSAL_POSITION_CODE, 0);
 
-    write_given(ENDS, bytes);
-    refused(misonkandi_star(bytes, 14, 4, 0, labels), MISONKANDI_REFUSAL_LENGTH, 0);
-    refused(misonkandi_star(bytes, 33 * 15, 4, 0, labels), MISONKANDI_REFUSAL_ENDS, 0);
-    bytes[8] = 2;
-    refused(misonkandi_star(bytes, 15, 0, 4, labels), MISONKANDI_REFUSAL_POSITION_CODE, 0);
-    refused(misonkandi_star(bytes, 15, 0, 0, labels), MISONKANDI_REFUSAL_LABEL_KIND, 0);
 
     for (k = 0; k < MISONKANDI_ROWS; k++) SAME(misonkandi_predicate_named(bytes_of(names[k]), strlen(names[k])), k);
     SAME(misonkandi_predicate_named(bytes_of("touch"), 5), MISONKANDI_NO_SUCH_ROW);
@@ -326,6 +351,87 @@ static void numbers(void) {
     SAME(misonkandi_predicate(cells, 0xFFFFFFFFu), MISONKANDI_NO_SUCH_ROW);
     SAME(MISONKANDI_REFUSED(MISONKANDI_NO_SUCH_ROW), 1);
     SAME(MISONKANDI_NUMBER(MISONKANDI_NO_SUCH_ROW), 8388607);
+}
+
+/* ---- Stars, and records of both versions ---- */
+
+enum { MOST_LABELS = MOST_ENDS * MISONKANDI_LABEL_BYTES };
+
+/* The order in which a star is refused: with no room at all, which is looked for last. */
+static void refused_stars(void) {
+    static uint8_t bytes[(MOST_ENDS + 1) * MISONKANDI_END_BYTES];
+    uint8_t label[7] = {9, 9, 9, 9, 9, 9, 9}, before[7];
+    memcpy(before, label, 7);
+    write_ends(bytes, MOST_ENDS + 1);
+    refused(misonkandi_star(bytes, 14, 4, 0, NULL, 0), MISONKANDI_REFUSAL_LENGTH, 0);
+    refused(misonkandi_star(bytes, sizeof bytes, 4, 0, NULL, 0), MISONKANDI_REFUSAL_ENDS, 0);
+    refused(misonkandi_star(bytes, sizeof bytes - 1, 4, 0, NULL, 0), MISONKANDI_REFUSAL_LENGTH, 0);
+    refused(misonkandi_bundle(bytes, sizeof bytes, label), MISONKANDI_REFUSAL_ENDS, 0);
+    SAME(memcmp(label, before, 7), 0);
+    SAME(misonkandi_bundle(bytes, sizeof bytes - 15, label), 0);
+    bytes[10] = 0; /* the first end's left, where the others have one */
+    refused(misonkandi_star(bytes, sizeof bytes - 15, 0, 0, NULL, 0), MISONKANDI_REFUSAL_MISSING_LEFT, 0);
+    bytes[8] = 2;
+    refused(misonkandi_star(bytes, sizeof bytes - 15, 0, 4, NULL, 0), MISONKANDI_REFUSAL_POSITION_CODE, 0);
+    refused(misonkandi_star(bytes, sizeof bytes - 15, 0, 0, NULL, 0), MISONKANDI_REFUSAL_LABEL_KIND, 0);
+    bytes[0] = 128;
+    refused(misonkandi_star(bytes, 15, 0, 0, NULL, 0), MISONKANDI_REFUSAL_DIRECTION, 0);
+}
+
+/* The star of so many ends, each in a direction of its own: in all the room there is and in exactly as much as is needed
+ * the labels are the same, and every byte behind them is as it was; with a byte less it is 12, and nothing written. */
+static void one_star(unsigned ends) {
+    static uint8_t bytes[MOST_ENDS * MISONKANDI_END_BYTES];
+    static uint8_t all[MOST_LABELS + 9], exact[MOST_LABELS + 9], short_room[MOST_LABELS + 9], before[MOST_LABELS + 9];
+    size_t count = write_ends(bytes, ends), need = ends * MISONKANDI_LABEL_BYTES, k;
+    memset(before, 9, sizeof before);
+    memset(all, 9, sizeof all), memset(exact, 9, sizeof exact), memset(short_room, 9, sizeof short_room);
+    SAME(misonkandi_star(bytes, count, 1, 0, all, sizeof all), ends);
+    SAME(misonkandi_star(bytes, count, 1, 0, exact, need), ends);
+    SAME(memcmp(all, exact, sizeof all), 0);
+    SAME(memcmp(all + need, before + need, sizeof all - need), 0);
+    for (k = 0; k < need; k++) SAME(all[k] < 4, 1);
+    if (need == 0) return;
+    refused(misonkandi_star(bytes, count, 1, 0, short_room, need - 1), MISONKANDI_REFUSAL_NO_ROOM, 0);
+    refused(misonkandi_star(bytes, count, 1, 0, NULL, 0), MISONKANDI_REFUSAL_NO_ROOM, 0);
+    SAME(memcmp(short_room, before, sizeof before), 0);
+}
+
+/* Each byte of the longest record's head, and of its first end, for the number that it is refused with. */
+static void damaged_two(void) {
+    static const struct { int byte; uint8_t to; unsigned number; } damages[] = {
+        {0, 255, MISONKANDI_REFUSAL_SHORT},       {2, 3, MISONKANDI_REFUSAL_VERSION},
+        {2, 0, MISONKANDI_REFUSAL_VERSION},       {2, 1, MISONKANDI_REFUSAL_LENGTH}, /* of 2 ends, by one byte */
+        {3, 3, MISONKANDI_REFUSAL_KIND},          {1, 0, MISONKANDI_REFUSAL_LENGTH},
+        {9, 89, MISONKANDI_REFUSAL_ENDS},         {9, 87, MISONKANDI_REFUSAL_LENGTH},
+        {8, 3, MISONKANDI_REFUSAL_ENDS},          {4, 0, MISONKANDI_REFUSAL_POSITION_CODE},
+        {7, 4, MISONKANDI_REFUSAL_POSITION_CODE}, {18, 2, MISONKANDI_REFUSAL_LABEL_KIND},
+        {18, 0, MISONKANDI_REFUSAL_LABEL_KIND},   {10, 128, MISONKANDI_REFUSAL_DIRECTION},
+        {20, 0, MISONKANDI_REFUSAL_MISSING_LEFT},
+    };
+    static const uint8_t low[9] = {0, 7, 2, MISONKANDI_NODE, 1, 1, 0, 0, 0};
+    uint8_t cells[9] = MISONKANDI_START, bytes[MOST_GIVEN];
+    size_t k, whole = write_given(TWO, bytes);
+    SAME(misonkandi_record(cells, bytes, whole), MISONKANDI_MOST_RECORD_BYTES);
+    memcpy(cells, start, 9);
+    for (k = 0; k < sizeof damages / sizeof damages[0]; k++) {
+        uint8_t kept = bytes[damages[k].byte];
+        bytes[damages[k].byte] = damages[k].to;
+        refused(misonkandi_record(cells, bytes, whole), damages[k].number, 0);
+        refused(misonkandi_convert_record(bytes, whole, NULL, 0, 0), damages[k].number, 0);
+        bytes[damages[k].byte] = kept;
+    }
+    refused(misonkandi_record(cells, low, 9), MISONKANDI_REFUSAL_LENGTH, 0);
+    refused(misonkandi_convert_record(bytes, whole, NULL, 0, 0), MISONKANDI_REFUSAL_ENDS, 0); /* above 32, no way back */
+    SAME(memcmp(cells, start, 9), 0);
+}
+
+static void stars_and_versions(void) {
+    static const unsigned counts[] = {0, 1, 2, 31, 32, 33, 64, 599, 600}; /* none of which 7 divides */
+    size_t k;
+    refused_stars();
+    for (k = 0; k < sizeof counts / sizeof counts[0]; k++) one_star(counts[k]);
+    damaged_two();
 }
 
 /* ---- Reports ---- */
@@ -381,6 +487,71 @@ static void reports(void) {
         for (k = 0; k < sizeof large / sizeof large[0]; k++)
             one_offset(REPORT, room, large[k]), one_offset(SHORT_REPORT, room, large[k]);
     }
+}
+
+/* ---- Records converted ---- */
+
+enum { MOST_VERSION_TWO = 2 + 8 + 15 * 601 };
+
+/* A node of so many lines, in 97 directions, by its bytes: the count in one byte or in two. */
+static size_t write_node(uint8_t *to, unsigned version, unsigned count) {
+    unsigned base = version == 1 ? 7 : 8, length = base + 15 * count, k;
+    memset(to, 0, 2 + length);
+    to[0] = (uint8_t)(length >> 8), to[1] = (uint8_t)length, to[2] = (uint8_t)version, to[3] = MISONKANDI_NODE;
+    to[4] = MISONKANDI_INSIDE, to[5] = MISONKANDI_ON_BOUNDARY, to[7] = MISONKANDI_OUTSIDE;
+    if (version == 2) to[8] = (uint8_t)(count >> 8);
+    to[1 + base] = (uint8_t)count;
+    for (k = 0; k < count; k++) {
+        uint8_t *end = to + 2 + base + 15 * k;
+        end[3] = (uint8_t)(1 + 31 * k % 97), end[7] = (uint8_t)(97 - 31 * k % 97);
+        end[9] = (uint8_t)(1 + k % 3), end[12] = (uint8_t)(1 + k % 2);
+    }
+    return 2 + length;
+}
+
+/* One record converted into a buffer of just the room that it takes, into the end of a longer one, and where a byte is
+ * missing; record and buffer stand against a page that nobody may touch. */
+static void converted(const uint8_t *record, size_t count, const uint8_t *other, size_t written, const pages room[2]) {
+    uint8_t *bytes = lent(room[0], record, count, 1), *buffer;
+    SAME(misonkandi_convert_record(bytes, count, lent(room[1], other, 0, 1) - written, written, 0), written);
+    buffer = room[1].start + ROOM - written;
+    SAME(memcmp(buffer, other, written), 0);
+    memset(buffer - 9, 7, written + 9);
+    SAME(misonkandi_convert_record(bytes, count, buffer - 9, written + 9, 9), written);
+    SAME(memcmp(buffer, other, written), 0);
+    SAME(buffer[-1], 7);
+    memset(buffer - 9, 7, written + 9);
+    refused(misonkandi_convert_record(bytes, count, buffer, written, 1), MISONKANDI_REFUSAL_NO_ROOM, 0);
+    refused(misonkandi_convert_record(bytes, count, buffer, written, (size_t)-1), MISONKANDI_REFUSAL_NO_ROOM, 0);
+    SAME(buffer[0], 7), SAME(buffer[written - 1], 7);
+}
+
+/* There and back for every count that version 1 has; from 33 on the way back is 5, and 5 comes before 12. */
+static void conversions(void) {
+    static uint8_t one[MOST_VERSION_TWO], two[MOST_VERSION_TWO];
+    uint8_t edge[MOST_GIVEN], other[11], kept[4] = {7, 7, 7, 7};
+    pages room[2];
+    unsigned n;
+    room[0] = guarded(), room[1] = guarded();
+    for (n = 0; n <= 601; n++) {
+        uint8_t a[9] = MISONKANDI_START, b[9] = MISONKANDI_START;
+        size_t first = n <= 33 ? write_node(one, 1, n) : 0, second = write_node(two, 2, n);
+        if (n <= 32) {
+            converted(one, first, two, second, room), converted(two, second, one, first, room);
+            SAME(misonkandi_record(a, one, first), first), SAME(misonkandi_record(b, two, second), second);
+            SAME(memcmp(a, b, 9), 0);
+            continue;
+        }
+        if (n == 33) refused(misonkandi_convert_record(one, first, kept, 4, 0), MISONKANDI_REFUSAL_ENDS, 0);
+        if (n <= 600) SAME(misonkandi_record(b, two, second), second);
+        refused(misonkandi_convert_record(two, second, kept, 4, 5), MISONKANDI_REFUSAL_ENDS, 0);
+    }
+    SAME(kept[0], 7), SAME(kept[3], 7);
+    write_given(EDGE, edge), memcpy(other, edge, 11), other[2] = 2;
+    converted(edge, 11, other, 11, room), converted(other, 11, edge, 11, room);
+    SAME(write_node(two, 2, 32), MISONKANDI_MOST_CONVERTED_BYTES);
+    SAME(write_node(two, 2, 600), MISONKANDI_MOST_RECORD_BYTES);
+    munmap(room[0].start - ROOM, 3 * ROOM), munmap(room[1].start - ROOM, 3 * ROOM);
 }
 
 /* ---- Floors ---- */
@@ -446,7 +617,7 @@ static void in_two(misonkandi_pieces *state, pages room, const uint8_t *bytes, s
 
 /* A floor cut into two pieces at every place, and into single bytes. */
 static void every_cut(const uint8_t *bytes, size_t count, const pages room[2]) {
-    misonkandi_pieces *state = (misonkandi_pieces *)lent(room[0], bytes, sizeof *state, 1);
+    misonkandi_pieces *state = (misonkandi_pieces *)lent(room[0], NULL, 0, 1) - 1;
     size_t cut;
     same_told(in_one_call(start, bytes, count), one_by_one(start, bytes, count));
     for (cut = 0; cut <= count; cut++) in_two(state, room[1], bytes, cut, count);
@@ -456,7 +627,7 @@ static void every_cut(const uint8_t *bytes, size_t count, const pages room[2]) {
 
 /* A floor with a damaged byte, cut where that byte stands and behind it. */
 static void one_damage(uint8_t *bytes, size_t count, size_t place, uint8_t to, const pages room[2]) {
-    misonkandi_pieces *state = (misonkandi_pieces *)lent(room[0], bytes, sizeof *state, 1);
+    misonkandi_pieces *state = (misonkandi_pieces *)lent(room[0], NULL, 0, 1) - 1;
     uint8_t kept = bytes[place];
     bytes[place] = to;
     same_told(in_one_call(start, bytes, count), one_by_one(start, bytes, count));
@@ -475,17 +646,54 @@ static size_t write_floor(uint8_t to[MOST_FLOOR]) {
     return at + LONG + write_given(EDGE, to + at + LONG);
 }
 
+/* A node of so many lines in one direction, by its bytes, in version 2. */
+static size_t write_lines(uint8_t *to, unsigned count) {
+    static const uint8_t line[MISONKANDI_END_BYTES] = {0, 0, 0, 1, 0, 0, 0, 1, MISONKANDI_LINE, 1, 0, 0, 0, 0, 0};
+    unsigned length = 8 + 15 * count, k;
+    to[0] = (uint8_t)(length >> 8), to[1] = (uint8_t)length, to[2] = 2, to[3] = MISONKANDI_NODE;
+    to[4] = to[5] = MISONKANDI_INSIDE, to[6] = to[7] = 0, to[8] = (uint8_t)(count >> 8), to[9] = (uint8_t)count;
+    for (k = 0; k < count; k++) memcpy(to + 10 + 15 * k, line, sizeof line);
+    return 2 + length;
+}
+
+/* The longest record, and one of an end more than there may be, which is longer than any accepted one: cut about where
+ * each begins and ends, about as far behind as a state holds, and now and then between; and at two places. */
+static void long_floor(const pages room[2]) {
+    static uint8_t bytes[9010 + 9025 + 9010];
+    misonkandi_pieces *state = (misonkandi_pieces *)lent(room[0], NULL, 0, 1) - 1;
+    static const size_t places[] = {9010, 9010 + 9010, 9010 + 9025};
+    size_t at = write_lines(bytes, 600), k, cut;
+    SAME(at, 9010);
+    at += write_lines(bytes + at, 601);
+    at += write_lines(bytes + at, 600);
+    refused(in_one_call(start, bytes, at).word, MISONKANDI_REFUSAL_ENDS, 0);
+    SAME(in_one_call(start, bytes, at).used, 9010);
+    same_told(in_one_call(start, bytes, at), one_by_one(start, bytes, at));
+    for (cut = 0; cut < at; cut += 499) in_two(state, room[1], bytes, cut, at);
+    for (k = 0; k < 3; k++) {
+        for (cut = places[k] - 4; cut < places[k] + 12; cut++) {
+            in_two(state, room[1], bytes, cut, at);
+            misonkandi_start(state, start);
+            pushed(state, room[1], bytes, 0, 9011), pushed(state, room[1], bytes, 9011, cut < 9011 ? 9011 : cut);
+            pushed(state, room[1], bytes, cut < 9011 ? 9011 : cut, at);
+        }
+    }
+    misonkandi_start(state, start);
+    for (cut = 0; cut < at; cut += 5) pushed(state, room[1], bytes, cut, cut + 5 < at ? cut + 5 : at);
+}
+
 /* A state of any bytes: some answer, within what is lent. */
 static void any_state(const uint8_t *bytes, size_t count, const pages room[2]) {
-    static const uint64_t counts[] = {0, 1, 2, 488, 489, 490, 491, 65536, 65537, 1ull << 63, UINT64_MAX};
-    static const uint32_t stops[] = {0, 1, 2, 9, 11, 15, 22, 23, 255, 256, 257, 0x80000000u, 0x80000100u, UINT32_MAX};
+    static const uint64_t counts[] = {0, 1, 2, 488, 9009, 9010, 9011, 9012, 65536, 65537, 1ull << 63, UINT64_MAX};
+    static const uint8_t stops[] = {0, 1, 2, 9, 11, 15, 22, 23, 128, 255};
     enum { COUNTS = sizeof counts / sizeof counts[0], STOPS = sizeof stops / sizeof stops[0] };
-    int k;
+    int k, at;
     for (k = 0; k < 256 * COUNTS * STOPS; k++) {
-        misonkandi_pieces *state = (misonkandi_pieces *)lent(room[0], bytes, sizeof *state, 1);
+        misonkandi_pieces *state = (misonkandi_pieces *)lent(room[0], NULL, 0, 1) - 1;
         uint32_t word;
         memset(state, k % 256, sizeof *state);
-        state->count = counts[k / 256 % COUNTS], state->stop = stops[k / 256 / COUNTS];
+        for (at = 0; at < 8; at++) state->bytes[16 + at] = (uint8_t)(counts[k / 256 % COUNTS] >> 8 * at);
+        state->bytes[24] = stops[k / 256 / COUNTS];
         word = misonkandi_push(state, lent(room[1], bytes, count, 1), count);
         SAME(word == 0 || MISONKANDI_REFUSED(word), 1);
         word = finished(state).word;
@@ -516,8 +724,6 @@ static void floors(void) {
     size_t k, count = write_floor(bytes);
     room[0] = guarded(), room[1] = guarded();
     SAME(sizeof(misonkandi_pieces), MISONKANDI_PIECES_BYTES);
-    SAME(offsetof(misonkandi_pieces, stop), 24), SAME(offsetof(misonkandi_pieces, cells), 28);
-    SAME(offsetof(misonkandi_pieces, held), 37);
     SAME(in_one_call(start, bytes, 500).records, 2), SAME(in_one_call(start, bytes, 500).word, 0);
     refused(in_one_call(start, bytes, count).word, MISONKANDI_REFUSAL_ENDS, 0);
     every_cut(bytes, 500, room), every_cut(bytes, count, room);
@@ -526,6 +732,7 @@ static void floors(void) {
         one_damage(bytes, count, k, bytes[k] ^ 128, room);
     }
     any_state(bytes, 40, room), any_state(bytes, count, room);
+    long_floor(room);
     larger_floors();
     munmap(room[0].start - ROOM, 3 * ROOM), munmap(room[1].start - ROOM, 3 * ROOM);
 }
@@ -721,7 +928,7 @@ static lendings all_lent(int k) {
     l.state = &state;
     l.cells = cells, l.text = text, l.labels = labels, l.buffer = buffer, l.bytes = bytes;
     l.xy = numbers_of(calls[k].given), l.corners = corners, l.answer = answer;
-    l.count = write_given(calls[k].given, bytes), l.room = MOST_GIVEN;
+    l.count = write_given(calls[k].given, bytes), l.room = sizeof buffer;
     memcpy(cells, start, 9);
     return l;
 }
@@ -802,7 +1009,9 @@ int main(void) {
     all_counts();
     nulls();
     numbers();
+    stars_and_versions();
     reports();
+    conversions();
     floors();
     outlines();
     shapes();

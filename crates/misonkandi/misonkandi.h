@@ -15,11 +15,11 @@
  * floor that comes in pieces is kept in a misonkandi_pieces of the caller's), so any threads may call at once, each on
  * bytes of its own. Of the C library no more is needed than memcpy, memmove and memset.
  *
- * Stack: MISONKANDI_STACK_BYTES are enough for any call. misonkandi_star takes most, about 3,900 bytes,
- * misonkandi_push 3,400, misonkandi_bundle 2,800, misonkandi_write_wkt 1,900, misonkandi_read_wkt 1,700,
- * misonkandi_floor 1,400, misonkandi_record 1,300, misonkandi_start 600, each other less than 400: measured on aarch64,
- * on a painted stack (bindings/c/run.sh, which fails at more than MISONKANDI_STACK_BYTES). On x86-64 earlier forms
- * took up to 5,000, and misonkandi_point_in_outline 1,400. Only merging ends leads back to itself, six deep.
+ * Stack: MISONKANDI_STACK_BYTES are enough for any call. Those that read a node take most, whatever it is, and with 600
+ * ends misonkandi_push about 17,100 bytes, misonkandi_floor, misonkandi_record and misonkandi_convert_record 17,000,
+ * misonkandi_star 16,800; misonkandi_write_wkt takes 1,900, misonkandi_read_wkt 1,700, each other less than 400: measured
+ * on aarch64, on a painted stack (bindings/c/run.sh, which fails at more than MISONKANDI_STACK_BYTES). On x86-64 earlier
+ * forms took up to half as much again. Only merging ends leads back to itself, at most ten deep.
  */
 #ifndef MISONKANDI_H
 #define MISONKANDI_H
@@ -32,7 +32,7 @@
 #define MISONKANDI_VERSION_MINOR 2
 #define MISONKANDI_VERSION_PATCH 0
 
-#define MISONKANDI_STACK_BYTES 8192
+#define MISONKANDI_STACK_BYTES 32768
 
 #ifdef __cplusplus
 extern "C" {
@@ -65,17 +65,17 @@ extern "C" {
 
 enum misonkandi_refusals {
     MISONKANDI_REFUSAL_SHORT = 1,           /* fewer bytes than the length field needs or promises */
-    MISONKANDI_REFUSAL_VERSION = 2,         /* version not 1; of a report neither 1 nor 2 */
+    MISONKANDI_REFUSAL_VERSION = 2,         /* version neither 1 nor 2 */
     MISONKANDI_REFUSAL_KIND = 3,            /* record kind not 1 or 2 */
-    MISONKANDI_REFUSAL_LENGTH = 4,          /* length wrong for its kind or a report's version; ends not whole */
-    MISONKANDI_REFUSAL_ENDS = 5,            /* more than 32 ends */
+    MISONKANDI_REFUSAL_LENGTH = 4,          /* length wrong for its kind or its version; ends not whole */
+    MISONKANDI_REFUSAL_ENDS = 5,            /* more ends than the version takes, 32 or 600; than a call, 600 */
     MISONKANDI_REFUSAL_POSITION_CODE = 6,   /* position code above 3, or none where a node lies */
     MISONKANDI_REFUSAL_LABEL_KIND = 7,      /* label kind above 1, or a line label with a side */
     MISONKANDI_REFUSAL_DIRECTION = 8,       /* direction 0,0 or a part beyond 2,000,000,000 in size */
     MISONKANDI_REFUSAL_MISSING_LEFT = 9,    /* for A or for B, some area bundle has a left and some only a right */
     MISONKANDI_REFUSAL_NOT_NINE_BYTES = 10, /* text or pattern not nine bytes */
     MISONKANDI_REFUSAL_BAD_BYTE = 11,       /* bad byte in a text, pattern or report; the place is the first one's */
-    MISONKANDI_REFUSAL_NO_ROOM = 12,        /* offset beyond the buffer, or fewer bytes from it than are written */
+    MISONKANDI_REFUSAL_NO_ROOM = 12,        /* offset beyond the buffer, or fewer bytes there than are written */
     MISONKANDI_REFUSAL_NOT_A_PLACE = 13,    /* coordinate not finite, box without min < max on an axis, kind above 1 */
     MISONKANDI_REFUSAL_TOP_BITS = 14,       /* one of the top six bits of a short report's cells set */
     MISONKANDI_REFUSAL_CORNER_COUNT = 16,   /* wrong count of corners, or half a corner left over; no such shape */
@@ -305,52 +305,75 @@ uint32_t misonkandi_write_wkt(uint32_t kind, const int32_t *xy, size_t numbers, 
  *   - Then every position still none becomes Outside if any line bundle of the star is OnBoundary for that geometry;
  *     else the node's area position, or Outside if that is none (the geometry is no area). A line's label has no sides.
  *
- * Both calls check as a record does: 4 if the bytes are no whole ends; 5; for a star 6, an area position above 3; each
- * end in turn 8, its label's kind 7, its codes 6, its sides 7; last, for a star, 9.
+ * Both calls check as a record does: 4 if the bytes are no whole ends; 5, above 600 ends; for a star 6, an area position
+ * above 3; each end in turn 8, its label's kind 7, its codes 6, its sides 7; then, for a star, 9, and last 12.
  */
 #define MISONKANDI_LABEL_BYTES 7
 #define MISONKANDI_END_BYTES 15
-#define MISONKANDI_MOST_ENDS 32
+
+/* The most ends of a call and of a node in version 2, and those of a node in version 1. */
+#define MISONKANDI_MOST_ENDS 600
+#define MISONKANDI_MOST_ENDS_OF_VERSION_1 32
 
 enum misonkandi_label_kinds { MISONKANDI_LINE = 0, MISONKANDI_AREA = 1 };
 
 /* Joins all ends into one label, whatever their directions: 0 and the label written, or a refusal. */
 uint32_t misonkandi_bundle(const uint8_t *ends, size_t count, uint8_t label[7]);
 
-/* The completed labels of the star of these ends, in order: how many (0 to 32), with seven bytes written for each and
- * zeros after them up to 32 * 7; or a refusal. The area positions are the node's against A's and B's area, none for a
- * geometry that is no area. */
-uint32_t misonkandi_star(const uint8_t *ends, size_t count, uint32_t area_a, uint32_t area_b, uint8_t labels[224]);
+/* The completed labels of the star of these ends, in order: how many (0 to 600), seven bytes for each in the front of a
+ * buffer of `room` bytes, every other byte as it was; or a refusal and no byte written, last 12 if the labels don't fit.
+ * There are at most as many labels as ends, so seven bytes for each end are room enough. The area positions are the
+ * node's against A's and B's area, none for a geometry that is no area. */
+uint32_t misonkandi_star(const uint8_t *ends, size_t count, uint32_t area_a, uint32_t area_b, uint8_t *labels,
+                         size_t room);
 
 /* ---- Plan records ----
  *
  * A record is a node with the ends at it, or an edge that meets no node.
  *
- *   A node:                                                      An isolated edge:
+ *   A node of version 1:                                         An isolated edge:
  *   0, 1  length: how many bytes follow, high byte first, 7+15n   0, 1     length, 9
- *   2     version, 1                                              2        version, 1
+ *   2     version, 1                                              2        version, 1 or 2
  *   3     kind, 1                                                 3        kind, 2
  *   4, 5  the node's position against A and B, not none           4 to 10  a label
  *   6, 7  its position against A's and B's area, none for no area
  *   8     n, how many ends follow: 0 to 32
  *   9..   n ends, in any order
  *
+ *   A node of version 2 has its count in two bytes:
+ *   0, 1  length, 8+15n
+ *   2     version, 2
+ *   3..7  as above
+ *   8, 9  n, high byte first: 0 to 600
+ *   10..  n ends, in any order
+ *
  * Pouring it raises cells, each to at least a dimension; a none raises nothing. A node raises the cell of its two
  * positions to 0, and each completed label of its star is poured. A label raises the cell of its two ons to 1 and, if
  * it is an area's, that of its two lefts and that of its two rights to 2. An isolated edge's label is poured as it is.
  *
- * Checked in this order: 1; a length below 2 is 4; 2; 3; a length below 7 (node) or not 9 (edge) is 4; 5; a length not
- * 7 + 15n is 4; the node's four positions 6; each end in turn 8, its label's kind 7, its codes 6, its sides 7; last 9.
- * An edge's label: kind 7, codes 6, sides 7.
+ * Checked in this order: 1; a length below 2 is 4; 2; 3; a length below 7 (a node's; 8 in version 2) or not 9 (an
+ * edge's) is 4; 5, above 32 ends (600 in version 2); a length not 7 + 15n (8 + 15n) is 4; the node's four positions 6;
+ * each end in turn 8, its label's kind 7, its codes 6, its sides 7; last 9. An edge's label: kind 7, codes 6, sides 7.
  */
 enum misonkandi_record_kinds { MISONKANDI_NODE = 1, MISONKANDI_EDGE = 2 };
 
-/* The most bytes that an accepted record has: 2 + 7 + 15 * 32. */
-#define MISONKANDI_MOST_RECORD_BYTES 489
+/* The most bytes that an accepted record has: 2 + 8 + 15 * 600. One of version 1 has at most 2 + 7 + 15 * 32, 489. */
+#define MISONKANDI_MOST_RECORD_BYTES 9010
 
 /* Pours one record into the cells: the bytes that it used, 2 + its length, or refusal 1 to 9. Bytes after it don't
  * matter, so the next record may stand there. */
 uint32_t misonkandi_record(uint8_t cells[9], const uint8_t *bytes, size_t count);
+
+/* The most bytes that a converted record has: of 32 ends in version 2, 2 + 8 + 15 * 32. */
+#define MISONKANDI_MOST_CONVERTED_BYTES 490
+
+/* Reads a record of either version and writes it in the other one into a buffer of `room` bytes from `offset` on: the
+ * bytes written, every other byte as it was. Those are one more than the record has for a node of version 1, one less
+ * for a node of version 2, 11 for an edge. Or a refusal and no byte written: the record's own, 1 to 9; then 5 for a
+ * node of version 2 with more than 32 ends; then 12 if the offset lies beyond the buffer or fewer bytes follow it than
+ * are written. Bytes after the record don't matter. What was written pours the same into every matrix, and converting
+ * it back gives the record's bytes again. */
+uint32_t misonkandi_convert_record(const uint8_t *bytes, size_t count, uint8_t *buffer, size_t room, size_t offset);
 
 /* ---- Floors ----
  *
@@ -369,22 +392,24 @@ uint32_t misonkandi_record(uint8_t cells[9], const uint8_t *bytes, size_t count)
 uint32_t misonkandi_floor(uint8_t cells[9], const uint8_t *bytes, size_t count, uint64_t answer[2]);
 
 /* What is kept of a floor that comes in pieces. It is lent to the three calls below and has no pointer in it, so it may
- * be copied and kept, moved or thrown away at any time; a copy goes on by itself. Its fields are the library's own:
- * nobody else needs them. A state that misonkandi_start didn't make, or whose bytes were changed, gets some answer, and
- * nothing is read or written out of bounds. */
+ * be copied and kept, moved or thrown away at any time; a copy goes on by itself. It may lie anywhere: it is bytes.
+ * They are the library's own, nobody else needs them. A state that misonkandi_start didn't make, or whose bytes were
+ * changed, gets some answer, and nothing is read or written out of bounds.
+ *
+ *   0    bytes of the accepted records so far           24  0, or the number of the refusal; 1 while a part waits
+ *   8    how many they are                              25  the nine cells that they leave
+ *   16   bytes behind them that a part of a record has  34  the front of that part, up to 9,011 bytes: one byte more
+ *        so far; these three are of eight bytes, the        than the longest accepted record has
+ *        lowest first
+ */
+#define MISONKANDI_PIECES_BYTES 9045
+
 typedef struct misonkandi_pieces {
-    uint64_t used;     /* bytes of the accepted records so far */
-    uint64_t records;  /* how many they are */
-    uint64_t count;    /* bytes behind them that a part of a record has so far */
-    uint32_t stop;     /* 0, or the number of the refusal; 1 while a part of a record waits for its rest */
-    uint8_t cells[9];  /* what the accepted records leave */
-    uint8_t held[490]; /* the front of that part: one byte more than the longest accepted record has */
+    uint8_t bytes[MISONKANDI_PIECES_BYTES];
 } misonkandi_pieces;
 
-/* sizeof(misonkandi_pieces): 527 bytes of fields, and one that nobody looks at. */
-#define MISONKANDI_PIECES_BYTES 528
-
-/* Nothing has come yet: pours into these cells. Whatever the state was is gone. */
+/* Nothing has come yet: pours into these cells. Whatever the state was is gone: its first 36 bytes are written, and no
+ * call looks at another one before it has written it. */
 void misonkandi_start(misonkandi_pieces *state, const uint8_t cells[9]);
 
 /* The next `count` bytes of the floor, cut anywhere; no bytes are a piece too. 0 while more may come: nothing is

@@ -74,7 +74,7 @@ static uint32_t plan_call(uint8_t operation, uint32_t a, uint32_t b, size_t offs
 {
     switch (operation) {
     case 0: return misonkandi_bundle(bytes, count, out);
-    case 1: return misonkandi_star(bytes, count, a, b, out);
+    case 1: return misonkandi_star(bytes, count, a, b, out, out_count);
     case 2: return misonkandi_record(out, bytes, count);
     case 3: return misonkandi_read_report(out, bytes, count);
     case 4: return misonkandi_write_report(out, bytes, count, offset);
@@ -86,6 +86,7 @@ static uint32_t plan_call(uint8_t operation, uint32_t a, uint32_t b, size_t offs
     case 10: return floor_call(out, bytes, count);
     case 11: return one_by_one_call(out, bytes, count);
     case 12: return pieces_call(out, out_count, bytes);
+    case 13: return misonkandi_convert_record(bytes, count, out, out_count, offset);
     }
     end(6);
     return 0;

@@ -14,6 +14,7 @@ use crate::relate::geomgraph::{
 };
 use crate::rule::BAD_CODE;
 use crate::rule_plan::{BAD_KIND, BAD_VERSION, TOO_FEW_BYTES};
+use crate::rule_report::NO_ROOM;
 use crate::rule_star::{
     BAD_DIRECTION, BAD_LABEL, END_BYTES, LABEL_BYTES, LARGEST_PART, MOST_ENDS, TOO_MANY_ENDS,
     WRONG_LENGTH,
@@ -46,8 +47,8 @@ pub enum PlanSaid {
     Gave { word: u32, out: Vec<u8> },
 }
 
-/// What the crate says to a call, or None if it can't be asked that: it has no reports and no floors, and its
-/// `coordinate_position` isn't among the files given. Bytes that this reader refuses don't come to the crate, and the refusal is the answer.
+/// What the crate says to a call, or None if it can't be asked that: it has no reports, no floors and no versions, and
+/// its `coordinate_position` isn't among the files given. Bytes that this reader refuses don't come to the crate, and the refusal is the answer.
 pub fn said(call: &PlanCall) -> Option<PlanSaid> {
     let same = |word| PlanSaid::Gave {
         word,
@@ -72,7 +73,8 @@ pub fn said(call: &PlanCall) -> Option<PlanSaid> {
         | PlanOp::WriteWkt
         | PlanOp::Floor
         | PlanOp::OneByOne
-        | PlanOp::Pieces => return None,
+        | PlanOp::Pieces
+        | PlanOp::ConvertRecord => return None,
     };
     Some(match answer {
         Some(Ok((word, out))) => PlanSaid::Gave { word, out },
@@ -93,8 +95,9 @@ fn star(call: &PlanCall) -> Result<(u32, Vec<u8>), u32> {
     let area = |code: u32| code_position(u8::try_from(code).unwrap_or(u8::MAX));
     let (a, b) = (graph(area(call.a)?), graph(area(call.b)?));
     let labels = labels(&star_of(&call.bytes)?.into_labeled(&a, &b));
-    let mut out = labels.concat();
-    out.resize(call.out.len(), 0);
+    let mut out = call.out.clone();
+    let front = out.get_mut(..LABEL_BYTES * labels.len());
+    front.ok_or(NO_ROOM)?.copy_from_slice(labels.as_flattened());
     Ok((labels.len() as u32, out))
 }
 
@@ -240,40 +243,61 @@ fn printed_label(text: &str) -> [u8; LABEL_BYTES] {
     bytes
 }
 
-/// One plan record read and poured through the crate's files: the bytes used, or a refusal's word. Refusal 9 is the
-/// crate's panic.
+/// One plan record of either version read and poured through the crate's files, which have no cap: the bytes used, or a
+/// refusal's word. Refusal 9 is the crate's panic.
 #[inline]
 pub fn record(matrix: &mut IntersectionMatrix, bytes: &[u8]) -> Result<u32, u32> {
     let (length, rest) = bytes.split_first_chunk::<2>().ok_or(TOO_FEW_BYTES)?;
     let length = usize::from(u16::from_be_bytes(*length));
     match rest.get(..length).ok_or(TOO_FEW_BYTES)? {
-        [1, 1, body @ ..] => node_record(matrix, body)?,
-        [1, 2, body @ ..] => {
+        [1, 1, body @ ..] => {
+            let (head, ends) = body.split_first_chunk().ok_or(WRONG_LENGTH)?;
+            let [node_a, node_b, area_a, area_b, count] = *head;
+            let positions = [node_a, node_b, area_a, area_b];
+            node_record(matrix, positions, count.into(), 32, ends)?;
+        }
+        [2, 1, body @ ..] => {
+            let (head, ends) = body.split_first_chunk().ok_or(WRONG_LENGTH)?;
+            let [node_a, node_b, area_a, area_b, high, low] = *head;
+            let positions = [node_a, node_b, area_a, area_b];
+            node_record(
+                matrix,
+                positions,
+                u16::from_be_bytes([high, low]),
+                600,
+                ends,
+            )?;
+        }
+        [1 | 2, 2, body @ ..] => {
             let label = label(body.try_into().map_err(|_| WRONG_LENGTH)?)?;
             Edge::<f64>::update_intersection_matrix(&label, matrix);
         }
-        [1, _, ..] => return Err(BAD_KIND),
+        [1 | 2, _, ..] => return Err(BAD_KIND),
         [_, _, ..] => return Err(BAD_VERSION),
         _ => return Err(WRONG_LENGTH),
     }
     Ok(2 + length as u32)
 }
 
+/// A node with its positions in both geometries and in both areas, and so many ends.
 #[inline]
-fn node_record(matrix: &mut IntersectionMatrix, body: &[u8]) -> Result<(), u32> {
-    let [node_a, node_b, area_a, area_b, count, ends @ ..] = body else {
-        return Err(WRONG_LENGTH);
-    };
-    if usize::from(*count) > MOST_ENDS {
+fn node_record(
+    matrix: &mut IntersectionMatrix,
+    [node_a, node_b, area_a, area_b]: [u8; 4],
+    count: u16,
+    most: u16,
+    ends: &[u8],
+) -> Result<(), u32> {
+    if count > most {
         return Err(TOO_MANY_ENDS);
     }
-    if ends.len() != usize::from(*count) * END_BYTES {
+    if ends.len() != usize::from(count) * END_BYTES {
         return Err(WRONG_LENGTH);
     }
     let node = |code: u8| code_position(code)?.ok_or(BAD_CODE);
-    let node = CoordNode::at(NODE, [node(*node_a)?, node(*node_b)?]);
-    let a = graph(code_position(*area_a)?);
-    let b = graph(code_position(*area_b)?);
+    let node = CoordNode::at(NODE, [node(node_a)?, node(node_b)?]);
+    let a = graph(code_position(area_a)?);
+    let b = graph(code_position(area_b)?);
     let star = star_of(ends)?.into_labeled(&a, &b);
     node.update_intersection_matrix(matrix);
     star.update_intersection_matrix(matrix);

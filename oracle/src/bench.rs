@@ -250,8 +250,10 @@ fn measure_text_in(name: &str, inputs: &[Input]) {
     );
 }
 
+/// `bench`, or `bench plans`: the lines of records, nodes and stars alone.
 pub fn main() {
     let random = &mut Random::new(SEED);
+    let plans = std::env::args().nth(1).is_some_and(|word| word == "plans");
     println!(
         "Best of {ROUNDS} rounds of {PASSES} passes over {INPUTS} random inputs ({} of stars and records), {}.",
         bench_plans::INPUTS,
@@ -271,6 +273,9 @@ pub fn main() {
     println!();
     println!("| call | crate, ns | ours, ns | crate / ours |");
     println!("|---|---:|---:|---:|");
+    if plans {
+        return bench_plans::measure_all(random);
+    }
     let first = inputs(random, |random, cells| disagreeing_at(random, cells, 0));
     measure_matches("`matches`, disagrees at the first cell", &first);
     let early = inputs(random, |random, cells| {

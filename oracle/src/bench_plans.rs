@@ -8,8 +8,8 @@
 use crate::asked;
 use crate::asked_star::{self, code_position, completed, graph, ready_ends};
 use crate::bench::measure;
-use crate::ours::plans::{LABELS, PlanCall};
-use crate::plan_pieces::{Directions, direction, end, record};
+use crate::ours::plans::{HELD, LABELS, PlanCall, room_for};
+use crate::plan_pieces::{Directions, Version, direction, end, record_of};
 use crate::random::Random;
 use crate::relate::geomgraph::intersection_matrix::IntersectionMatrix;
 use crate::relate::geomgraph::{EdgeEnd, GeometryGraph};
@@ -27,7 +27,7 @@ mod linked {
         unreachable!()
     }
 
-    pub fn star(_: &[u8], _: u32, _: u32, _: &mut [u8; 224]) -> u32 {
+    pub fn star(_: &[u8], _: u32, _: u32, _: &mut [u8]) -> u32 {
         unreachable!()
     }
 
@@ -36,20 +36,26 @@ mod linked {
     }
 }
 
-/// A star has many branches of its own, so that fewer of them than of matrices can't be learnt by heart either.
+/// A star has many branches of its own, so that fewer of them than of matrices can't be learnt by heart either. Of the
+/// largest there are as many ends as of 32 in all.
 pub(crate) const INPUTS: usize = 2048;
+const LARGE_INPUTS: usize = 128;
 
 /// In a file; its rounds.
 const REPORTS: usize = 1 << 18;
 const REPORT_ROUNDS: usize = 60;
 
 const SIZES: [usize; 3] = [4, 8, 32];
+/// Request R-11.
+const LARGE: usize = 600;
+const LARGE_SEED: u64 = 11;
 const START: [u8; 9] = [0, 0, 0, 0, 0, 0, 0, 0, 3];
 const AXES: [(i32, i32); 4] = [(1, 0), (0, 1), (-1, 0), (0, -1)];
 
-/// One node: as a record, and as the crate keeps its ends.
+/// One node: as a record, of version 2 if it has too many ends for version 1, and as the crate keeps its ends.
 pub(crate) struct Node {
     pub(crate) record: Vec<u8>,
+    first_end: usize,
     areas: [u8; 2],
     ends: Vec<EdgeEnd<f64>>,
     graphs: [GeometryGraph<'static, f64>; 2],
@@ -58,14 +64,20 @@ pub(crate) struct Node {
 
 impl Node {
     fn end_bytes(&self) -> &[u8] {
-        &self.record[9..]
+        &self.record[self.first_end..]
     }
 }
 
 /// Square walls lie on the axes, one after the other; others as their directions are chosen. Each bounds A or B.
 pub(crate) fn node(random: &mut Random, count: usize, walls: Directions) -> Node {
+    let version = if count > 32 {
+        Version::Two
+    } else {
+        Version::One
+    };
     let areas = [random.below(4) as u8, random.below(4) as u8];
-    let mut body = vec![2, 2, areas[0], areas[1], count as u8];
+    let mut body = vec![2, 2, areas[0], areas[1]];
+    body.extend(&(count as u16).to_be_bytes()[2 - version.form().count_bytes..]);
     for number in 0..count {
         let direction = if let Directions::Axes = walls {
             let (x, y) = AXES[number % 4];
@@ -80,33 +92,51 @@ pub(crate) fn node(random: &mut Random, count: usize, walls: Directions) -> Node
         label[at..at + 3].copy_from_slice(&sides);
         body.extend(end(direction, &label));
     }
-    let record = record(1, &body);
+    let record = record_of(version, 1, &body);
+    let first_end = version.form().first_end();
     let area = |code| graph(code_position(code).expect("a code of 0 to 3"));
     Node {
         areas,
-        ends: ready_ends(&record[9..]).expect("the ends are good"),
+        first_end,
+        ends: ready_ends(&record[first_end..]).expect("the ends are good"),
         graphs: areas.map(area),
         matrix: asked::matrix(&START),
         record,
     }
 }
 
+const WALLS: [(Directions, &str); 4] = [
+    (Directions::Axes, "square walls"),
+    (Directions::Any, "any directions"),
+    (Directions::Mixed, "square and slanted walls mixed"),
+    (Directions::Near, "near-equal directions shuffled"),
+];
+
 pub(crate) fn measure_all(random: &mut Random) {
-    for (directions, walls) in [
-        (Directions::Axes, "square walls"),
-        (Directions::Any, "any directions"),
-        (Directions::Mixed, "square and slanted walls mixed"),
-        (Directions::Near, "near-equal directions shuffled"),
-    ] {
+    for (directions, walls) in WALLS {
         for count in SIZES {
             let nodes: Vec<_> = (0..INPUTS)
                 .map(|_| node(random, count, directions))
                 .collect();
-            measure_records(&format!("record of {count} ends, {walls}"), &nodes);
-            measure_nodes(&format!("node of {count} ends, {walls}"), &nodes);
-            measure_stars(&format!("star of {count} ends, {walls}"), &nodes);
+            measure_node(&format!("{count} ends, {walls}"), &nodes);
+            measure_stars::<LABELS>(&format!("star of {count} ends, {walls}"), &nodes);
         }
     }
+    // From a generator of their own, so that the other lines have the inputs that they had without these.
+    let random = &mut Random::new(LARGE_SEED);
+    for (directions, walls) in WALLS {
+        let nodes: Vec<_> = (0..LARGE_INPUTS)
+            .map(|_| node(random, LARGE, directions))
+            .collect();
+        measure_node(&format!("{LARGE} ends, {walls}"), &nodes);
+        let name = format!("star of {LARGE} ends, {walls}");
+        measure_stars::<{ room_for(LARGE) }>(&name, &nodes);
+    }
+}
+
+fn measure_node(what: &str, nodes: &[Node]) {
+    measure_records(&format!("record of {what}"), nodes);
+    measure_nodes(&format!("node of {what}"), nodes);
 }
 
 fn measure_records(name: &str, nodes: &[Node]) {
@@ -154,21 +184,23 @@ fn measure_nodes(name: &str, nodes: &[Node]) {
     );
 }
 
-fn measure_stars(name: &str, nodes: &[Node]) {
+/// With room for so many bytes of labels.
+fn measure_stars<const ROOM: usize>(name: &str, nodes: &[Node]) {
     measure(
         name,
         nodes,
         |node| completed(&node.ends, &node.graphs),
         |node| {
             let [a, b] = node.areas.map(u32::from);
-            let mut labels = [0; LABELS];
+            let mut labels = [HELD; ROOM];
             let count = linked::star(node.end_bytes(), a, b, &mut labels);
             (count, labels)
         },
         |node| {
             let [a, b] = node.areas.map(u32::from);
-            let due = rule_plan::outcome(&PlanCall::star(node.end_bytes().to_vec(), a, b));
-            (due.word, due.out.try_into().expect("224 bytes"))
+            let ends = node.end_bytes().to_vec();
+            let due = rule_plan::outcome(&PlanCall::star_in(ROOM, ends, a, b));
+            (due.word, due.out.try_into().expect("the room lent"))
         },
     );
 }

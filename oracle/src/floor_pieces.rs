@@ -1,16 +1,30 @@
 //! Floors: runs of records, good and damaged, and the ways to cut them into pieces.
 
-use crate::plan_pieces::{damaged_record, ends, good_record, node_record, record};
+use crate::plan_pieces::{
+    Version, damaged_record_of, ends, good_record_of, node_record_of, record,
+};
 use crate::random::Random;
 use crate::rule_plan;
 
 /// Above so many pieces a cut is made coarser: what is kept of each would be longer than a call may be.
 const MOST_PIECES: usize = 4000;
 
+/// How the version of a record is drawn: `Version::either`, or always the first one, which draws nothing.
+pub type Versions = fn(&mut Random) -> Version;
+
+pub fn first(_: &mut Random) -> Version {
+    Version::One
+}
+
 /// A record of either kind that is accepted.
 pub fn accepted(random: &mut Random) -> Vec<u8> {
+    accepted_of(random, first)
+}
+
+pub fn accepted_of(random: &mut Random, versions: Versions) -> Vec<u8> {
     loop {
-        let bytes = good_record(random);
+        let version = versions(random);
+        let bytes = good_record_of(random, version);
         if is_accepted(&bytes) {
             return bytes;
         }
@@ -19,9 +33,13 @@ pub fn accepted(random: &mut Random) -> Vec<u8> {
 
 /// A node record of so many ends that is accepted.
 pub fn accepted_node(random: &mut Random, count: usize) -> Vec<u8> {
+    accepted_node_of(random, Version::One, count)
+}
+
+pub fn accepted_node_of(random: &mut Random, version: Version, count: usize) -> Vec<u8> {
     loop {
         let ends = ends(random, count);
-        let bytes = node_record(random, &ends);
+        let bytes = node_record_of(random, version, &ends);
         if is_accepted(&bytes) {
             return bytes;
         }
@@ -35,7 +53,13 @@ fn is_accepted(bytes: &[u8]) -> bool {
 
 /// So many accepted records.
 pub fn floor(random: &mut Random, count: usize) -> Vec<u8> {
-    (0..count).flat_map(|_| accepted(random)).collect()
+    floor_of(random, first, count)
+}
+
+pub fn floor_of(random: &mut Random, versions: Versions, count: usize) -> Vec<u8> {
+    (0..count)
+        .flat_map(|_| accepted_of(random, versions))
+        .collect()
 }
 
 /// Records that raise few cells, so that the matrix at the end still tells which were poured.
@@ -55,17 +79,27 @@ pub fn quiet_floor(random: &mut Random, count: usize) -> Vec<u8> {
 
 /// Up to `most` good records, and if it is to be damaged a damaged one and a few more behind them.
 pub fn any_floor(random: &mut Random, most: usize, damaged: bool) -> Vec<u8> {
+    any_floor_of(random, first, most, damaged)
+}
+
+pub fn any_floor_of(
+    random: &mut Random,
+    versions: Versions,
+    most: usize,
+    damaged: bool,
+) -> Vec<u8> {
     let count = random.below(most + 1);
-    let mut bytes = floor(random, count);
+    let mut bytes = floor_of(random, versions, count);
     if damaged {
-        let mut bad = damaged_record(random);
+        let version = versions(random);
+        let mut bad = damaged_record_of(random, version);
         if random.below(8) == 0 {
             let ends = ends(random, 4);
-            bad = node_record(random, &ends);
+            bad = node_record_of(random, version, &ends);
         }
         bytes.extend(bad);
         let after = random.below(4);
-        bytes.extend(floor(random, after));
+        bytes.extend(floor_of(random, versions, after));
     }
     bytes
 }
@@ -119,7 +153,9 @@ pub fn with_empty_ones(random: &mut Random, counts: Vec<usize>) -> Vec<usize> {
 
 /// A cut of any of these kinds; the number of pieces is bounded.
 pub fn any_cut(random: &mut Random, total: usize) -> Vec<usize> {
-    let size = random.pick(&[1, 2, 3, 7, 11, 64, 488, 489, 490, 491, 492, 4096, 65_536]);
+    let size = random.pick(&[
+        1, 2, 3, 7, 11, 64, 489, 490, 4096, 9009, 9010, 9011, 9012, 65_536,
+    ]);
     let size = size.max(total / MOST_PIECES + 1);
     let way = random.pick(&[Cut::Each(size), Cut::UpTo(size), Cut::UpTo(2 * size)]);
     let counts = cut(random, total, way);

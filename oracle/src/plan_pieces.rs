@@ -1,6 +1,7 @@
 //! Pieces that ends, records and reports are made of.
 
 use crate::random::Random;
+use crate::rule_plan::{FORMS, Form};
 use crate::rule_star::{END_BYTES, LABEL_BYTES, LARGEST_PART};
 
 const LARGEST: i32 = LARGEST_PART as i32;
@@ -171,6 +172,20 @@ pub fn ends(random: &mut Random, count: usize) -> Vec<u8> {
     ends
 }
 
+/// So many good ends, their directions and labels chosen so.
+pub fn ends_of(
+    random: &mut Random,
+    count: usize,
+    directions: Directions,
+    labels: Labels,
+) -> Vec<u8> {
+    let mut end = |_| {
+        let direction = direction(random, directions);
+        end(direction, &labels.label(random))
+    };
+    (0..count).flat_map(&mut end).collect()
+}
+
 /// Good ends, turned by ninety degrees against the clock.
 pub fn turned(ends: &[u8]) -> Vec<u8> {
     let (ends, _) = ends.as_chunks::<END_BYTES>();
@@ -226,46 +241,100 @@ pub fn damage_ends(random: &mut Random, ends: &mut [u8]) {
     }
 }
 
+/// The version that a record is drawn in.
+#[derive(Clone, Copy)]
+pub enum Version {
+    One,
+    Two,
+}
+
+impl Version {
+    pub fn either(random: &mut Random) -> Self {
+        random.pick(&[Version::One, Version::Two])
+    }
+
+    pub fn form(self) -> &'static Form {
+        &FORMS[self as usize]
+    }
+
+    /// So many ends as a record of this version may have: mostly a few. Of version 2 now and then any number, and often
+    /// about as many as there may be.
+    fn count(self, random: &mut Random) -> usize {
+        match self {
+            Version::One => count(random).min(32),
+            Version::Two => match random.below(12) {
+                0 => random.below(601),
+                1 => random.pick(&[33, 64, 599, 600]),
+                2 => random.below(100),
+                _ => count(random),
+            },
+        }
+    }
+}
+
 /// A whole record of kind 1 or 2 around its body.
 pub fn record(kind: u8, body: &[u8]) -> Vec<u8> {
+    record_of(Version::One, kind, body)
+}
+
+pub fn record_of(version: Version, kind: u8, body: &[u8]) -> Vec<u8> {
     let length = 2 + body.len() as u16;
     let mut bytes = length.to_be_bytes().to_vec();
-    bytes.extend([1, kind]);
+    bytes.extend([version.form().version, kind]);
     bytes.extend(body);
     bytes
 }
 
 /// A node record around its ends, with good positions.
 pub fn node_record(random: &mut Random, ends: &[u8]) -> Vec<u8> {
+    node_record_of(random, Version::One, ends)
+}
+
+/// The count is cut to as many bytes as the version has.
+pub fn node_record_of(random: &mut Random, version: Version, ends: &[u8]) -> Vec<u8> {
     let mut body: Vec<u8> = (0..2).map(|_| 1 + random.below(3) as u8).collect();
     body.extend((0..2).map(|_| random.below(4) as u8));
-    body.push((ends.len() / END_BYTES) as u8);
+    let count = (ends.len() / END_BYTES) as u16;
+    body.extend(&count.to_be_bytes()[2 - version.form().count_bytes..]);
     body.extend(ends);
-    record(1, &body)
+    record_of(version, 1, &body)
 }
 
 pub fn edge_record(random: &mut Random) -> Vec<u8> {
+    edge_record_of(random, Version::One)
+}
+
+pub fn edge_record_of(random: &mut Random, version: Version) -> Vec<u8> {
     let labels = Labels {
         paired: false,
         ..Labels::any(random)
     };
     let label = labels.label(random);
-    record(2, &label)
+    record_of(version, 2, &label)
 }
 
 /// A record of either kind that no check before refusal 9 refuses.
 pub fn good_record(random: &mut Random) -> Vec<u8> {
+    good_record_of(random, Version::One)
+}
+
+pub fn good_record_of(random: &mut Random, version: Version) -> Vec<u8> {
     if random.below(4) == 0 {
-        return edge_record(random);
+        return edge_record_of(random, version);
     }
-    let count = count(random).min(32);
+    let count = version.count(random);
     let ends = ends(random, count);
-    node_record(random, &ends)
+    node_record_of(random, version, &ends)
 }
 
 /// A good record with a fault of one of many kinds; some of them leave it good.
 pub fn damaged_record(random: &mut Random) -> Vec<u8> {
-    let mut bytes = good_record(random);
+    damaged_record_of(random, Version::One)
+}
+
+pub fn damaged_record_of(random: &mut Random, version: Version) -> Vec<u8> {
+    let mut bytes = good_record_of(random, version);
+    let first_end = version.form().first_end();
     let at = random.below(bytes.len());
     match random.below(10) {
         0 => bytes.truncate(at),
@@ -273,10 +342,10 @@ pub fn damaged_record(random: &mut Random) -> Vec<u8> {
         2 => bytes[1] = bytes[1].wrapping_add(random.pick(&[1, 2, 15, 240, 241, 255])),
         3 => bytes[2] = random.byte(),
         4 => bytes[3] = random.pick(&[0, 1, 2, 3, 255]),
-        5 => bytes[4 + random.below(5)] = random.pick(&[0, 4, 33, 255]),
-        6 => return of_too_many(random),
+        5 => bytes[4 + random.below(first_end - 4)] = random.pick(&[0, 4, 33, 255]),
+        6 => return of_too_many(random, version),
         7 if bytes[3] == 2 => damage_label(random, &mut bytes[4..]),
-        7 | 8 if bytes[3] == 1 => damage_ends(random, &mut bytes[9..]),
+        7 | 8 if bytes[3] == 1 => damage_ends(random, &mut bytes[first_end..]),
         _ => {
             // two faults, so that the order of the checks shows
             bytes[at] = random.byte();
@@ -287,13 +356,16 @@ pub fn damaged_record(random: &mut Random) -> Vec<u8> {
     bytes
 }
 
-/// A node record of 33 ends and more, its length right for them or not.
-fn of_too_many(random: &mut Random) -> Vec<u8> {
-    let count = random.pick(&[33, 34, 40, 255]);
+/// A node record of more ends than its version takes, its length right for them or not.
+fn of_too_many(random: &mut Random, version: Version) -> Vec<u8> {
+    let count = random.pick(match version {
+        Version::One => &[33, 34, 40, 255],
+        Version::Two => &[601, 602, 768, 1024],
+    });
     let ends = ends(random, count);
-    let mut bytes = node_record(random, &ends);
+    let mut bytes = node_record_of(random, version, &ends);
     if random.below(3) == 0 {
-        let cut = 9 + random.below(60);
+        let cut = version.form().first_end() + random.below(60);
         bytes.truncate(cut);
         bytes[..2].copy_from_slice(&(cut as u16 - 2).to_be_bytes());
     }

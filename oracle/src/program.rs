@@ -1,6 +1,6 @@
-//! The program itself: random runs of plan records, damaged ones and truncated ones are given to it on standard input, from
-//! files and through pipes, and what it prints is held to document 01's rules. Each run is also put to the library, in
-//! one call and a call a record. Pipes are also written while signals interrupt the program's reads.
+//! The program itself: random runs of plan records of both versions, damaged ones and truncated ones are given to it on
+//! standard input, from files and through pipes, and what it prints is held to document 01's rules. Each run is also put
+//! to the library, in one call and a call a record. Pipes are also written while signals interrupt the program's reads.
 //!
 //! Two builds are run: `target/native/relate`, the program's module compiled for this processor (tools/program.sh), and
 //! `./relate` told to run the x86-64 program as `rt` builds it, under its emulator elsewhere (`MISONKANDI_NATIVE=no`).
@@ -12,10 +12,12 @@ use std::process::{Command, Output, Stdio};
 use std::thread;
 use std::time::{Duration, Instant};
 
-use crate::floor_pieces::{accepted, any_floor, quiet_floor};
+use crate::floor_pieces::{accepted, accepted_of, any_floor_of, quiet_floor};
 use crate::ours::Library;
 use crate::ours::plans::{PlanCall, PlanOp};
-use crate::plan_pieces::{damaged_record, edge_record, ends, node_record, record};
+use crate::plan_pieces::{
+    Version, damaged_record_of, edge_record_of, ends, node_record_of, record,
+};
 use crate::random::Random;
 use crate::{rule, rule_floor, rule_plan};
 
@@ -185,10 +187,13 @@ impl Run {
     }
 
     fn truncated(&mut self, program: &Path) {
-        let mut input = edge_record(&mut self.random);
-        for count in [0, 1, 3] {
-            let ends = ends(&mut self.random, count);
-            input.extend(node_record(&mut self.random, &ends));
+        let mut input = Vec::new();
+        for version in [Version::One, Version::Two] {
+            input.extend(edge_record_of(&mut self.random, version));
+            for count in [0, 1, 3] {
+                let ends = ends(&mut self.random, count);
+                input.extend(node_record_of(&mut self.random, version, &ends));
+            }
         }
         for count in 0..=input.len() {
             self.ask(program, &input[..count], Way::File);
@@ -200,8 +205,10 @@ impl Run {
         for before in (READ - 3..READ + 3).chain(2 * READ - 2..2 * READ + 1) {
             let start = of_bytes(before);
             let mut long = vec![0xFF, 0xFF, 1, self.random.pick(&[1, 2, 3])];
+            long[2] = self.random.pick(&[1, 2, 2]);
             long.resize(65_537 - self.random.below(2), 7);
-            for record in [long, accepted(&mut self.random)] {
+            let good = accepted_of(&mut self.random, Version::either);
+            for record in [long, good] {
                 let input = [&start[..], &record].concat();
                 self.ask(program, &input, Way::File);
                 self.ask(program, &input, Way::Pipe(5000));
@@ -234,19 +241,20 @@ impl Run {
         self.over_the_end(program);
         for _ in 0..times {
             let damaged = self.random.below(3) != 0;
-            let input = any_floor(&mut self.random, 5, damaged);
+            let input = any_floor_of(&mut self.random, Version::either, 5, damaged);
             let way = self.way();
             self.ask(program, &input, way);
         }
         for _ in 0..times / 50 {
             let damaged = self.random.below(2) != 0;
-            let mut input = any_floor(&mut self.random, 600, damaged);
+            let mut input = any_floor_of(&mut self.random, Version::either, 600, damaged);
             let way = self.way();
             self.ask(program, &input, way);
             let count = self.random.below(20_000);
             input = quiet_floor(&mut self.random, count);
             if damaged {
-                input.extend(damaged_record(&mut self.random));
+                let version = Version::either(&mut self.random);
+                input.extend(damaged_record_of(&mut self.random, version));
             }
             let way = self.way();
             self.ask(program, &input, way);

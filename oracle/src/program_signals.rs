@@ -6,7 +6,8 @@
 use std::path::{Path, PathBuf};
 use std::process::{Command, Stdio};
 
-use crate::floor_pieces::any_floor;
+use crate::floor_pieces::any_floor_of;
+use crate::plan_pieces::Version;
 use crate::program::{Pauses, Run, piped};
 
 /// Long enough for a few signals.
@@ -34,7 +35,7 @@ impl Run {
         let mut broken_off = 0;
         for _ in 0..times {
             let damaged = self.random.below(3) == 0;
-            let input = any_floor(&mut self.random, 12, damaged);
+            let input = any_floor_of(&mut self.random, Version::either, 12, damaged);
             let mut command = Command::new(program);
             command.env("LD_PRELOAD", &library);
             command.stdout(Stdio::piped()).stderr(Stdio::piped());

@@ -1,5 +1,5 @@
-//! Document 01's rules for labels, bundles, the direction order, stars and pouring, and request R-6's for the collapse,
-//! written down plainly and apart from the crate.
+//! Document 01's rules for labels, bundles, the direction order, stars and pouring, request R-6's for the collapse and
+//! R-11's for the number of ends, written down plainly and apart from the crate.
 //!
 //! Nothing here is clever: a bundle is looked through once for each question, a star is sorted and cut into bundles.
 
@@ -12,7 +12,8 @@ pub const BAD_LABEL: u32 = refusal(7);
 pub const BAD_DIRECTION: u32 = refusal(8);
 pub const SINGLE_SIDE: u32 = refusal(9);
 
-pub const MOST_ENDS: usize = 32;
+/// Request R-11: "Star and bundle calls take 600."
+pub const MOST_ENDS: usize = 600;
 pub const END_BYTES: usize = 15;
 pub const LABEL_BYTES: usize = 7;
 pub const LARGEST_PART: i64 = 2_000_000_000;
@@ -109,7 +110,7 @@ impl End {
     }
 }
 
-/// "check count .. as a record does": whole ends, 32 of them at most.
+/// "check count .. as a record does": whole ends, 600 of them at most.
 pub fn whole_ends(bytes: &[u8]) -> Result<&[[u8; END_BYTES]], u32> {
     let (whole, rest) = bytes.as_chunks::<END_BYTES>();
     if !rest.is_empty() {

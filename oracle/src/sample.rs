@@ -12,12 +12,14 @@ use crate::pieces::{
 };
 use crate::random::Random;
 use crate::rule::{self, Outcome};
+use crate::sample_again;
 use crate::sample_floors;
 use crate::sample_line::{self, Case};
 use crate::sample_outlines;
 use crate::sample_plans;
 use crate::sample_reports;
 use crate::sample_verdicts;
+use crate::sample_versions;
 use crate::sample_wkt;
 
 /// Never another one: the file must come out the same every time.
@@ -54,8 +56,12 @@ const HEAD: &str = "\
 # cells, where the crate says no if a cell before the bad byte disagrees.
 ";
 
+/// `sample`, or `sample again FILE`.
 pub fn main() {
     asked::hush_the_crate();
+    if let Some(path) = std::env::args().nth(2) {
+        return sample_again::main(&path);
+    }
     let mut random = Random::new(SEED);
     let mut lines = format!("{}{HEAD}", sample_line::HEAD);
     for call in calls(&mut random) {
@@ -77,6 +83,7 @@ pub fn main() {
         (sample_outlines::HEAD, sample_outlines::calls()),
         (sample_wkt::HEAD, sample_wkt::calls()),
         (sample_floors::HEAD, sample_floors::calls()),
+        (sample_versions::HEAD, sample_versions::calls()),
     ] {
         lines.push_str(head);
         met.extend(sample_plans::write_lines(&mut lines, &calls));

@@ -14,7 +14,7 @@ use crate::random::Random;
 use crate::rule;
 use crate::rule_plan::{self, PlanOutcome, REACHABLE};
 use crate::rule_report::long;
-use crate::rule_star::{END_BYTES, SINGLE_SIDE};
+use crate::rule_star::{END_BYTES, LABEL_BYTES, SINGLE_SIDE};
 use crate::sample_line::{Case, MOST_CONVERTED, MOST_GIVEN};
 
 /// The most bytes of the small records, and the most ends of the small stars.
@@ -350,6 +350,7 @@ fn letter(op: PlanOp) -> char {
         PlanOp::WriteWkt => 'U',
         PlanOp::Floor => 'A',
         PlanOp::Pieces => 'Y',
+        PlanOp::ConvertRecord => 'Z',
         PlanOp::OneByOne => unreachable!("the lines of records have these"),
     }
 }
@@ -365,10 +366,14 @@ pub fn write_lines(lines: &mut String, calls: &[PlanCall]) -> Vec<Met> {
     met
 }
 
-/// The lines must have each number that each call can give.
+/// The lines must have each number that each call can give. No line has room for the 601 ends that a call refuses with 5;
+/// `compare` has them.
 pub fn check_met(met: &[Met]) {
     for (op, numbers) in REACHABLE {
-        let all = numbers.iter().all(|number| met.contains(&(op, *number)));
+        let too_long = |number| number == 5 && matches!(op, PlanOp::Bundle | PlanOp::Star);
+        let all = numbers
+            .iter()
+            .all(|number| too_long(*number) || met.contains(&(op, *number)));
         assert!(all, "{}: a refusal isn't in the sample", op.name());
     }
 }
@@ -384,13 +389,21 @@ fn high_bytes_first(lent: &[u8]) -> Vec<u8> {
 fn given_and_due(call: &PlanCall, due: &PlanOutcome) -> (Vec<u8>, Vec<u8>) {
     let given = call.bytes.clone();
     match call.op {
-        PlanOp::Bundle | PlanOp::Star | PlanOp::Record | PlanOp::ReadReport => {
-            (given, due.out.clone())
+        PlanOp::Bundle | PlanOp::Record | PlanOp::ReadReport => (given, due.out.clone()),
+        // behind the labels stands what was lent, which a line leaves off
+        PlanOp::Star if !rule::refuses(due.word) => {
+            let labels = LABEL_BYTES * due.word as usize;
+            (given, due.out[..labels].to_vec())
         }
+        PlanOp::Star => (given, due.out.clone()),
         PlanOp::WriteReport | PlanOp::WriteShortReport => (given, due.bytes.clone()),
         PlanOp::ConvertReport => {
             let both = [given, call.out.clone()].concat();
             assert!(both.len() <= MOST_CONVERTED, "too long for replay");
+            (both, [&due.bytes[..], &due.out].concat())
+        }
+        PlanOp::ConvertRecord => {
+            let both = [given, call.out.clone()].concat();
             (both, [&due.bytes[..], &due.out].concat())
         }
         PlanOp::PointInOutline => (high_bytes_first(&given), Vec::new()),
@@ -423,6 +436,10 @@ fn write_line(lines: &mut String, call: &PlanCall, due: &PlanOutcome) {
             case.cells = call.cells();
         }
         PlanOp::ConvertReport => case.dimension = call.bytes.len() as u8,
+        PlanOp::ConvertRecord => {
+            assert_eq!(case.a, 0, "an offset of four bytes");
+            case.a = call.bytes.len() as u32;
+        }
         PlanOp::ReadWkt => {}
         PlanOp::WriteWkt => {
             case.cells[0] = u8::try_from(call.a).expect("a kind of one byte");

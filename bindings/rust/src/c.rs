@@ -5,48 +5,23 @@
 //! crosses as its pointer and its count; that of an empty one leads nowhere, and the library doesn't follow it.
 #![allow(dead_code, unused_imports)] // The oracle uses some of it, and so does a build without stars.
 
-use core::mem::offset_of;
-
 /// What the three calls that take a predicate answer where there is no such one. No answer and no refusal equals it.
 pub const NO_SUCH_ROW: u32 = 0xFFFF_FFFF;
 
 /// A refusal is this, plus 256 times its number, plus its place. A word below it is an answer.
 pub const REFUSED: u32 = 1 << 31;
 
-/// What is kept of a floor that comes in pieces, laid out as the header's struct. Numbers alone, so any bytes are one.
+/// What is kept of a floor that comes in pieces: the header's struct, which is bytes alone, so any bytes are one.
 #[repr(C)]
-#[derive(Clone, Copy)]
+#[derive(Clone, Copy, PartialEq, Eq)]
 pub struct Pieces {
-    pub used: u64,
-    pub records: u64,
-    pub count: u64,
-    pub stop: u32,
-    pub cells: [u8; 9],
-    pub held: [u8; 490],
+    bytes: [u8; 9045],
 }
 
 impl Pieces {
     /// Zeros, to be lent to [`start`].
-    pub const BLANK: Pieces = Pieces {
-        used: 0,
-        records: 0,
-        count: 0,
-        stop: 0,
-        cells: [0; 9],
-        held: [0; 490],
-    };
+    pub const BLANK: Pieces = Pieces { bytes: [0; 9045] };
 }
-
-// Where each field lies, as C lays the header's struct out.
-const _: () = {
-    assert!(offset_of!(Pieces, used) == 0);
-    assert!(offset_of!(Pieces, records) == 8);
-    assert!(offset_of!(Pieces, count) == 16);
-    assert!(offset_of!(Pieces, stop) == 24);
-    assert!(offset_of!(Pieces, cells) == 28);
-    assert!(offset_of!(Pieces, held) == 37);
-    assert!(size_of::<Pieces>() == 528);
-};
 
 mod declared {
     use super::Pieces;
@@ -103,7 +78,8 @@ mod declared {
             count: usize,
             area_a: u32,
             area_b: u32,
-            labels: &mut [u8; 224],
+            labels: *mut u8,
+            room: usize,
         ) -> u32;
         pub fn misonkandi_record(cells: &mut [u8; 9], bytes: *const u8, count: usize) -> u32;
         pub fn misonkandi_floor(
@@ -127,6 +103,13 @@ mod declared {
             offset: usize,
         ) -> u32;
         pub fn misonkandi_convert_report(
+            bytes: *const u8,
+            count: usize,
+            buffer: *mut u8,
+            room: usize,
+            offset: usize,
+        ) -> u32;
+        pub fn misonkandi_convert_record(
             bytes: *const u8,
             count: usize,
             buffer: *mut u8,
@@ -198,9 +181,11 @@ pub fn bundle(ends: &[u8], label: &mut [u8; 7]) -> u32 {
     unsafe { declared::misonkandi_bundle(ends.as_ptr(), ends.len(), label) }
 }
 
-pub fn star(ends: &[u8], area_a: u32, area_b: u32, labels: &mut [u8; 224]) -> u32 {
-    // SAFETY: pointer and count are those of one slice, lent to be read until the call ends; the labels lie elsewhere.
-    unsafe { declared::misonkandi_star(ends.as_ptr(), ends.len(), area_a, area_b, labels) }
+pub fn star(ends: &[u8], area_a: u32, area_b: u32, labels: &mut [u8]) -> u32 {
+    let (start, room) = (labels.as_mut_ptr(), labels.len());
+    // SAFETY: each pointer and count are those of one slice. The ends are lent to be read until the call ends, the
+    // labels are lent to nobody else until then, and so lie elsewhere.
+    unsafe { declared::misonkandi_star(ends.as_ptr(), ends.len(), area_a, area_b, start, room) }
 }
 
 pub fn record(cells: &mut [u8; 9], bytes: &[u8]) -> u32 {
@@ -240,6 +225,13 @@ pub fn convert_report(bytes: &[u8], buffer: &mut [u8], offset: usize) -> u32 {
     // SAFETY: each pointer and count are those of one slice. The bytes are lent to be read until the call ends, the
     // buffer is lent to nobody else until then, and so lies elsewhere.
     unsafe { declared::misonkandi_convert_report(bytes.as_ptr(), bytes.len(), start, room, offset) }
+}
+
+pub fn convert_record(bytes: &[u8], buffer: &mut [u8], offset: usize) -> u32 {
+    let (start, room) = (buffer.as_mut_ptr(), buffer.len());
+    // SAFETY: each pointer and count are those of one slice. The bytes are lent to be read until the call ends, the
+    // buffer is lent to nobody else until then, and so lies elsewhere.
+    unsafe { declared::misonkandi_convert_record(bytes.as_ptr(), bytes.len(), start, room, offset) }
 }
 
 pub fn point_in_outline(xy: &[i32], x: i32, y: i32) -> u32 {

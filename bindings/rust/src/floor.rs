@@ -78,7 +78,7 @@ pub fn floor(mut cells: [u8; 9], bytes: &[u8]) -> Floor {
 
 /// A floor that comes in pieces, cut anywhere, in bounded memory: what [`floor`] answers to all bytes pushed so far.
 ///
-/// It is plain numbers, [`PIECES_BYTES`] of them, without a pointer: a copy goes on by itself.
+/// It is plain bytes, [`PIECES_BYTES`] of them, without a pointer: a copy goes on by itself.
 ///
 /// ```
 /// use misonkandi::{IntersectionMatrix, Pieces, Refusal};

@@ -29,7 +29,8 @@
 //! last one in order; `set`, `set_at_least` and their kin are public. docs/DIFFERENCES.md has the list, and what was run to
 //! know it.
 //!
-//! The crate needs no `std`. Its feature `alloc`, on by default, is for [`star`] and [`star_of_bytes`], which answer a list.
+//! The crate needs no `std`. Its feature `alloc`, on by default, is for [`star`] and [`star_of_bytes`], which answer a list;
+//! [`write_star`] writes it into bytes that are lent.
 #![no_std]
 #![deny(unsafe_code)]
 #![warn(missing_docs, clippy::undocumented_unsafe_blocks)]
@@ -39,6 +40,7 @@ extern crate alloc;
 
 #[allow(unsafe_code)]
 mod c;
+mod conversion;
 mod corners;
 mod floor;
 mod matrix;
@@ -53,6 +55,7 @@ mod shape;
 mod star;
 mod verdict;
 
+pub use conversion::{MOST_CONVERTED_BYTES, convert_record};
 pub use corners::MOST_CORNERS;
 pub use floor::{Floor, PIECES_BYTES, Pieces, floor};
 pub use matrix::IntersectionMatrix;
@@ -64,7 +67,10 @@ pub use record::{MOST_RECORD_BYTES, Record};
 pub use refusal::{InvalidInputError, Refusal};
 pub use report::{REPORT_BYTES, SHORT_REPORT_BYTES, convert_report};
 pub use shape::{MOST_WKT_BYTES, Shape, ShapeKind, read_wkt, write_wkt};
-pub use star::{END_BYTES, EdgeEnd, LABEL_BYTES, Label, MOST_ENDS, Sides, bundle, bundle_of_bytes};
+pub use star::{
+    END_BYTES, EdgeEnd, LABEL_BYTES, Label, MOST_ENDS, MOST_ENDS_OF_VERSION_1, Sides, bundle,
+    bundle_of_bytes, write_star,
+};
 #[cfg(feature = "alloc")]
 pub use star::{star, star_of_bytes};
 pub use verdict::Verdict;

@@ -20,13 +20,13 @@ use crate::c;
 pub enum Refusal {
     /// 1: fewer bytes than the length field needs or promises.
     Short,
-    /// 2: version not 1; of a report neither 1 nor 2.
+    /// 2: version neither 1 nor 2.
     Version,
     /// 3: kind not 1 or 2.
     Kind,
-    /// 4: length wrong for its kind, or for a report or its version; of ends, bytes that are no whole ends.
+    /// 4: length wrong for its kind or its version, or for a report; of ends, bytes that are no whole ends.
     Length,
-    /// 5: more than 32 ends.
+    /// 5: more ends than the version takes, 32 or 600; a call on ends takes 600.
     Ends,
     /// 6: position code above 3, or node position 0.
     PositionCode,
@@ -130,10 +130,10 @@ impl Refusal {
     const fn words(self) -> &'static str {
         match self {
             Refusal::Short => "fewer bytes than the length field needs or promises",
-            Refusal::Version => "version not 1, or of a report neither 1 nor 2",
+            Refusal::Version => "version neither 1 nor 2",
             Refusal::Kind => "kind not 1 or 2",
             Refusal::Length => "length wrong for its kind or version",
-            Refusal::Ends => "more than 32 ends",
+            Refusal::Ends => "more ends than the version or the call takes",
             Refusal::PositionCode => "position code above 3, or node position 0",
             Refusal::LabelKind => "label kind above 1, or a line label with a side",
             Refusal::Direction => "direction 0,0 or a part beyond 2,000,000,000",

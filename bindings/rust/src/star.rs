@@ -1,7 +1,7 @@
 //! Edge ends, labels, bundles and stars.
 
 #[cfg(feature = "alloc")]
-use alloc::vec::Vec;
+use alloc::{vec, vec::Vec};
 
 use crate::c;
 use crate::positions::CoordPos;
@@ -46,8 +46,11 @@ pub const LABEL_BYTES: usize = 7;
 /// Bytes of an end in a record.
 pub const END_BYTES: usize = 15;
 
-/// The most ends that a node may have.
-pub const MOST_ENDS: usize = 32;
+/// The most ends that a node may have, and that a call takes.
+pub const MOST_ENDS: usize = 600;
+
+/// The most ends of a node in a record of version 1; more than these need version 2.
+pub const MOST_ENDS_OF_VERSION_1: usize = 32;
 
 impl Sides {
     fn bytes(self) -> [u8; 3] {
@@ -109,12 +112,9 @@ impl EdgeEnd {
     }
 }
 
-/// Writes ends as a record has them, one after the other, and answers those bytes. More than a record may have are
-/// refused here: every call that takes ends refuses them for nothing else first.
-pub(crate) fn write_ends<'a>(
-    ends: &[EdgeEnd],
-    room: &'a mut [u8; MOST_ENDS * END_BYTES],
-) -> Result<&'a [u8], Refusal> {
+/// Writes ends as a record has them, one after the other, into the front of a room for the most ends, and answers those
+/// bytes. More than a record may have are refused here: every call that takes ends refuses them for nothing else first.
+pub(crate) fn write_ends<'a>(ends: &[EdgeEnd], room: &'a mut [u8]) -> Result<&'a [u8], Refusal> {
     if ends.len() > MOST_ENDS {
         return Err(Refusal::Ends);
     }
@@ -131,8 +131,8 @@ fn label_of(bytes: [u8; LABEL_BYTES]) -> Label {
 
 /// Joins all ends into the label of one bundle; their directions are not compared.
 ///
-/// Refused: 5; then each end in turn 8, 7. Promised: `bundledOf`, crates/star/specs/Calls.antt; the order of the ends doesn't
-/// matter (`join-shuffled`, crates/ends/proofs/LawsJoin.antt).
+/// Refused: 5 above 600 ends; then each end in turn 8, 7. Promised: `bundledOf`, crates/star/specs/Calls.antt; the order of
+/// the ends doesn't matter (`join-shuffled`, crates/ends/proofs/LawsJoin.antt).
 pub fn bundle(ends: &[EdgeEnd]) -> Result<Label, Refusal> {
     let mut room = [0; MOST_ENDS * END_BYTES];
     bundle_of_bytes(write_ends(ends, &mut room)?).map(label_of)
@@ -150,8 +150,8 @@ pub fn bundle_of_bytes(ends: &[u8]) -> Result<[u8; LABEL_BYTES], Refusal> {
 /// The completed labels of a star: the ends sorted into bundles, counterclockwise from the east, joined and completed.
 /// `area_a` and `area_b` are the node's positions in A's and in B's area, none where that one is no area.
 ///
-/// Refused: 5; each end in turn 8, 7; last 9. Promised: `starCall`, crates/star/specs/Calls.antt; there is one way to put ends
-/// into bundles in order (`only-order`, crates/ends/proofs/LawsUnique.antt).
+/// Refused: 5 above 600 ends; each end in turn 8, 7; last 9. Promised: `starCall`, crates/star/specs/Calls.antt; there is one
+/// way to put ends into bundles in order (`only-order`, crates/ends/proofs/LawsUnique.antt).
 #[cfg(feature = "alloc")]
 pub fn star(
     ends: &[EdgeEnd],
@@ -174,8 +174,34 @@ pub fn star_of_bytes(
     area_a: u32,
     area_b: u32,
 ) -> Result<Vec<[u8; LABEL_BYTES]>, Refusal> {
-    let mut labels = [0; MOST_ENDS * LABEL_BYTES];
-    let count = answered(c::star(ends, area_a, area_b, &mut labels))?;
-    let (whole, _) = labels.as_chunks::<LABEL_BYTES>();
-    Ok(whole[..count as usize].to_vec())
+    // A label for each end is room enough. Of more ends than a call takes nothing is written, so none is held for them.
+    let most = (ends.len() / END_BYTES).min(MOST_ENDS);
+    let mut labels = vec![[0; LABEL_BYTES]; most];
+    let count = write_star(ends, area_a, area_b, labels.as_flattened_mut())?;
+    labels.truncate(count);
+    Ok(labels)
+}
+
+/// The same into bytes that are lent: answers how many labels stand in their front, seven bytes each; every other byte
+/// stays. Each end has a label at most, so seven bytes for each end are room enough.
+///
+/// Refused, and no byte changed: as [`star_of_bytes`](crate::star_of_bytes); then 12 where the labels don't fit. Promised:
+/// `starBytesCall`, `StarTold`, crates/misonkandi/specs/Stars.antt.
+///
+/// ```
+/// use misonkandi::{Refusal, write_star};
+///
+/// let north = [0, 0, 0, 0, 0, 0, 0, 2, 0, 1, 0, 0, 1, 0, 0]; // a line inside both
+/// let mut labels = [9; 8];
+/// assert_eq!(write_star(&north, 0, 0, &mut labels), Ok(1));
+/// assert_eq!(labels, [0, 1, 0, 0, 1, 0, 0, 9]);
+/// assert_eq!(write_star(&north, 0, 0, &mut labels[..6]), Err(Refusal::NoRoom));
+/// ```
+pub fn write_star(
+    ends: &[u8],
+    area_a: u32,
+    area_b: u32,
+    labels: &mut [u8],
+) -> Result<usize, Refusal> {
+    answered(c::star(ends, area_a, area_b, labels)).map(|count| count as usize)
 }

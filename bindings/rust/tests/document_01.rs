@@ -2,7 +2,7 @@
 
 use misonkandi::{
     CoordPos, Dimensions, EdgeEnd, IntersectionMatrix, Label, Place, Predicate, REPORT_BYTES,
-    Record, Refusal, Sides, bundle, bundle_of_bytes, relate_coded, star, star_of_bytes,
+    Record, Refusal, Sides, bundle, bundle_of_bytes, relate_coded, star, star_of_bytes, write_star,
 };
 
 const I: Option<CoordPos> = Some(CoordPos::Inside);
@@ -203,14 +203,13 @@ fn points_and_what_is_no_place() {
 }
 
 #[test]
-fn thirty_two_ends_pass_and_thirty_three_are_5() {
+fn thirty_two_ends_pass_in_version_1_and_thirty_three_are_5() {
     let ends = [line_end(1, 0, I); 33];
     for count in [0, 32] {
         let record = node(CoordPos::Inside, &ends[..count]).expect("a good record");
         let mut poured = START;
         assert_eq!(poured.pour_record(&record), Ok(9 + 15 * count));
     }
-    assert_eq!(node(CoordPos::Inside, &ends), Err(Refusal::Ends));
     let mut longer = node(CoordPos::Inside, &ends[..32])
         .expect("a good record")
         .to_vec();
@@ -219,14 +218,60 @@ fn thirty_two_ends_pass_and_thirty_three_are_5() {
     longer[8] = 33;
     let mut kept = START;
     assert_eq!(kept.pour_record(&longer), Err(Refusal::Ends));
+}
+
+/// Request R-11: a node in version 2, and the calls on ends.
+#[test]
+fn six_hundred_ends_pass_and_six_hundred_one_are_5() {
+    let ends = [line_end(1, 0, I); 601];
+    for count in [33, 600] {
+        let record = node(CoordPos::Inside, &ends[..count]).expect("a good record");
+        let mut poured = START;
+        assert_eq!(poured.pour_record(&record), Ok(10 + 15 * count));
+    }
+    assert_eq!(node(CoordPos::Inside, &ends), Err(Refusal::Ends));
     assert_eq!(bundle(&ends), Err(Refusal::Ends));
     assert_eq!(star(&ends, None, None), Err(Refusal::Ends));
-    assert_eq!(bundle(&ends[..32]).map(|label| label.b.on), Ok(I));
-    assert_eq!(
-        star(&ends[..32], None, None).map(|labels| labels.len()),
-        Ok(1)
-    );
+    for count in [32, 33, 600] {
+        assert_eq!(bundle(&ends[..count]).map(|label| label.b.on), Ok(I));
+        let labels = star(&ends[..count], None, None);
+        assert_eq!(labels.map(|labels| labels.len()), Ok(1));
+    }
     assert_eq!(star(&[], None, None), Ok(vec![]));
+}
+
+/// As many directions as ends, from the north to the east: the labels come the other way round, and fit exactly.
+#[test]
+fn the_labels_of_a_star_in_the_room_that_is_lent() {
+    for count in [1, 32, 33, 600] {
+        let end = |at: usize| line_end(1 + at as i32, 600 - at as i32, [I, B, E][at % 3]);
+        let ends: Vec<_> = (0..count).map(end).collect();
+        let bytes = ends.iter().flat_map(|end| end.bytes()).collect::<Vec<_>>();
+        let labels = ends.iter().rev().flat_map(|end| end.label.bytes());
+        let labels = labels.collect::<Vec<_>>();
+        let listed = star(&ends, I, I).expect("a star");
+        assert!(listed.iter().eq(ends.iter().rev().map(|end| &end.label)));
+
+        let mut room = vec![9; 7 * count + 5];
+        assert_eq!(write_star(&bytes, 1, 1, &mut room), Ok(count));
+        assert_eq!(room, [&labels[..], &[9; 5]].concat());
+        let mut exact = vec![9; 7 * count];
+        assert_eq!(write_star(&bytes, 1, 1, &mut exact), Ok(count));
+        assert_eq!(exact, labels);
+        let mut short = vec![9; 7 * count - 1];
+        let kept = short.clone();
+        assert_eq!(write_star(&bytes, 1, 1, &mut short), Err(Refusal::NoRoom));
+        assert_eq!(short, kept);
+    }
+    assert_eq!(write_star(&[], 0, 0, &mut []), Ok(0));
+    // Room is looked for last: of a bad end, and of a right without a left, nothing is told but that.
+    let bad = line_end(0, 0, I).bytes();
+    assert_eq!(write_star(&bad, 0, 0, &mut []), Err(Refusal::Direction));
+    assert_eq!(write_star(&bad, 0, 4, &mut []), Err(Refusal::PositionCode));
+    let left = area_end(1, 0, sides(B, I, E), Sides::default()).bytes();
+    let no_left = area_end(0, 1, sides(B, None, E), Sides::default()).bytes();
+    let both = [left, no_left].concat();
+    assert_eq!(write_star(&both, 0, 0, &mut []), Err(Refusal::MissingLeft));
 }
 
 #[test]
@@ -242,7 +287,8 @@ fn records_are_refused_in_document_01s_order() {
     };
     assert_eq!(with(0, 1), 1); // length 323
     assert_eq!(with(1, 1), 4); // length below 2
-    assert_eq!(with(2, 2), 2);
+    assert_eq!(with(2, 3), 2);
+    assert_eq!(with(2, 2), 5); // version 2, of 1,024 ends by its two bytes
     assert_eq!(with(3, 3), 3);
     assert_eq!(with(1, 66), 4); // not 7 + 15n
     assert_eq!(with(8, 33), 5);
@@ -348,7 +394,9 @@ fn ends_as_bytes_are_checked_as_in_a_record() {
     let end = line_end(1, 0, I).bytes();
     assert_eq!(bundle_of_bytes(&end[..14]), Err(Refusal::Length));
     assert_eq!(star_of_bytes(&end[..14], 4, 0), Err(Refusal::Length));
-    assert_eq!(star_of_bytes(&end.repeat(33), 0, 4), Err(Refusal::Ends));
+    assert_eq!(star_of_bytes(&end.repeat(601), 0, 4), Err(Refusal::Ends));
+    assert_eq!(bundle_of_bytes(&end.repeat(601)), Err(Refusal::Ends));
+    assert_eq!(star_of_bytes(&[], 0, 4), Err(Refusal::PositionCode));
     assert_eq!(star_of_bytes(&[0; 15], 0, 4), Err(Refusal::PositionCode));
     assert_eq!(star_of_bytes(&[0; 15], 0, 0), Err(Refusal::Direction));
     let with = |place: usize, byte: u8| {

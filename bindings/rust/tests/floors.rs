@@ -1,7 +1,7 @@
 //! Floors: in one call, record by record, and in pieces cut anywhere, which must all say the same.
 
 use misonkandi::{
-    CoordPos, EdgeEnd, Floor, IntersectionMatrix, Label, MOST_ENDS, MOST_RECORD_BYTES,
+    CoordPos, EdgeEnd, Floor, IntersectionMatrix, Label, MOST_ENDS_OF_VERSION_1, MOST_RECORD_BYTES,
     PIECES_BYTES, Pieces, Record, Refusal, Sides, floor,
 };
 
@@ -181,9 +181,56 @@ fn floors_of_many_records_in_random_pieces() {
     }
 }
 
-/// The longest accepted record, and ones that are longer than any: these are refused once they have come whole.
+/// A record of version 2 by its bytes: a node of so many lines of A, all in one direction.
+fn node_of_lines(count: u16) -> Vec<u8> {
+    let mut bytes = (8 + 15 * count).to_be_bytes().to_vec();
+    bytes.extend([2, 1, 1, 1, 0, 0]);
+    bytes.extend(count.to_be_bytes());
+    for _ in 0..count {
+        bytes.extend([0, 0, 0, 1, 0, 0, 0, 1, 0, 1, 0, 0, 0, 0, 0]);
+    }
+    bytes
+}
+
+/// The longest accepted record, and ones that are longer than any: these are refused once they have come whole, by the
+/// front of them that is kept.
 #[test]
-fn the_longest_records_cut_anywhere() {
+fn the_longest_records_of_version_2_cut_anywhere() {
+    let most = node_of_lines(600);
+    assert_eq!(most.len(), MOST_RECORD_BYTES);
+    let mut a_byte_more = most.clone();
+    a_byte_more[..2].copy_from_slice(&u16::to_be_bytes(9009));
+    a_byte_more.push(0);
+    let mut other_kind = node_of_lines(700);
+    other_kind[3] = 3;
+    for (long, refusal) in [
+        (a_byte_more, Refusal::Length),
+        (node_of_lines(601), Refusal::Ends),
+        (node_of_lines(4000), Refusal::Ends),
+        (other_kind, Refusal::Kind),
+    ] {
+        let bytes = [&most[..], &long, &most].concat();
+        let told = in_one_call(START, &bytes);
+        assert_eq!(
+            (told.used, told.records, told.refusal),
+            (9010, 1, Some(refusal))
+        );
+        let [start, end] = [9010, 9010 + long.len()];
+        let about = |place: usize| place - 4..=place + 12;
+        for cut in (0..bytes.len())
+            .step_by(997)
+            .chain([start, end, start + 9010].into_iter().flat_map(about))
+        {
+            in_pieces(START, &bytes, [cut]);
+            in_pieces(START, &bytes, [start + 1, cut.max(start + 1)]);
+        }
+        in_pieces(START, &bytes[..end + 1], (0..end + 1).step_by(7));
+    }
+}
+
+/// The longest accepted record of version 1, and ones that are longer.
+#[test]
+fn the_longest_records_of_version_1_cut_anywhere() {
     let line = Label {
         area: false,
         a: Sides {
@@ -196,9 +243,9 @@ fn the_longest_records_cut_anywhere() {
         dx: 1,
         dy: 1,
         label: line,
-    }; MOST_ENDS];
+    }; MOST_ENDS_OF_VERSION_1];
     let most = Record::node([CoordPos::Inside; 2], [None, None], &ends).expect("32 ends");
-    assert_eq!(most.len(), MOST_RECORD_BYTES);
+    assert_eq!(most.len(), 489);
     for (length, refusal) in [
         (488, Refusal::Length),
         (502, Refusal::Ends),
@@ -279,5 +326,5 @@ fn a_copy_goes_on_by_itself() {
     assert_eq!(pieces.push(&bytes[45..]), Ok(()));
     assert_eq!(pieces.finish(), floor(START, &bytes));
     assert_eq!(copy.finish().used, 39);
-    assert_eq!(PIECES_BYTES, 528);
+    assert_eq!(PIECES_BYTES, 9045);
 }

@@ -4,9 +4,9 @@ use std::collections::BTreeSet;
 use std::fs;
 
 use misonkandi::{
-    CoordPos, Dimensions, END_BYTES, LABEL_BYTES, MOST_CORNERS, MOST_ENDS, MOST_RECORD_BYTES,
-    MOST_WKT_BYTES, NoSuchPredicate, PIECES_BYTES, Predicate, REPORT_BYTES, Refusal,
-    SHORT_REPORT_BYTES, ShapeKind,
+    CoordPos, Dimensions, END_BYTES, LABEL_BYTES, MOST_CONVERTED_BYTES, MOST_CORNERS, MOST_ENDS,
+    MOST_ENDS_OF_VERSION_1, MOST_RECORD_BYTES, MOST_WKT_BYTES, NoSuchPredicate, PIECES_BYTES,
+    Predicate, REPORT_BYTES, Refusal, SHORT_REPORT_BYTES, ShapeKind,
 };
 
 const FOLDER: &str = env!("CARGO_MANIFEST_DIR");
@@ -64,7 +64,7 @@ fn the_header_s_functions_are_the_crate_s() {
     let (header, crate_s) = (header(), read("src/c.rs"));
     let names = declared(&header);
     assert_eq!(names, declared(&crate_s));
-    assert_eq!(names.len(), 27);
+    assert_eq!(names.len(), 28);
 }
 
 /// The lines between the braces of a struct, without what is said of them.
@@ -77,23 +77,13 @@ fn inside<'a>(text: &'a str, first: &str) -> Vec<&'a str> {
     lines.filter(|line| !line.is_empty()).collect()
 }
 
-/// A field of C as Rust writes it.
-fn field(line: &str) -> String {
-    let (kind, name) = line.split_once(' ').expect("a type and a name");
-    let kind = kind.trim_start_matches("uint").trim_end_matches("_t");
-    match name.trim_end_matches([']', ';']).split_once('[') {
-        Some((name, count)) => format!("pub {name}: [u{kind}; {count}],"),
-        None => format!("pub {}: u{kind},", name.trim_end_matches(';')),
-    }
-}
-
 #[test]
 fn the_header_s_state_is_the_crate_s() {
     let (header, crate_s) = (header(), read("src/c.rs"));
     let state = inside(&header, "typedef struct misonkandi_pieces {");
-    let state = state.into_iter().map(field).collect::<Vec<_>>();
-    assert_eq!(state, inside(&crate_s, "pub struct Pieces {"));
-    assert_eq!(state.len(), 6);
+    assert_eq!(state, ["uint8_t bytes[MISONKANDI_PIECES_BYTES];"]);
+    let state = inside(&crate_s, "pub struct Pieces {");
+    assert_eq!(state, [format!("bytes: [u8; {PIECES_BYTES}],")]);
 }
 
 /// The value of a name of the header, from its `#define` or its enum. An enum's case without a number follows the last.
@@ -202,8 +192,10 @@ fn the_header_s_numbers_are_the_crate_s() {
     let sizes = [
         ("LABEL_BYTES", LABEL_BYTES),
         ("END_BYTES", END_BYTES),
+        ("MOST_CONVERTED_BYTES", MOST_CONVERTED_BYTES),
         ("MOST_CORNERS", MOST_CORNERS),
         ("MOST_ENDS", MOST_ENDS),
+        ("MOST_ENDS_OF_VERSION_1", MOST_ENDS_OF_VERSION_1),
         ("MOST_RECORD_BYTES", MOST_RECORD_BYTES),
         ("MOST_WKT_BYTES", MOST_WKT_BYTES),
         ("PIECES_BYTES", PIECES_BYTES),

@@ -5,10 +5,10 @@ use std::collections::BTreeMap;
 use std::fs;
 
 use misonkandi::{
-    CoordPos, END_BYTES, EdgeEnd, IntersectionMatrix, LABEL_BYTES, Label, MOST_ENDS, Outline,
-    Pieces, Place, Predicate, Refusal, Shape, ShapeKind, Verdict, bundle, bundle_of_bytes,
+    CoordPos, END_BYTES, EdgeEnd, IntersectionMatrix, LABEL_BYTES, Label, Outline, Pieces, Place,
+    Predicate, Refusal, Shape, ShapeKind, Verdict, bundle, bundle_of_bytes, convert_record,
     convert_report, floor, point_in_outline, read_wkt, relate_coded, star, star_of_bytes,
-    write_wkt,
+    write_star, write_wkt,
 };
 
 const FOLDER: &str = concat!(env!("CARGO_MANIFEST_DIR"), "/../../crates/replay/");
@@ -218,8 +218,8 @@ fn ends_of(bytes: &[u8]) -> Option<Vec<EdgeEnd>> {
 
 /// B, K: ends as bytes and, where the bytes spell some, with types. A refused call answers no label.
 fn ends_case(kind: char, case: &Case) {
-    let typed = ends_of(&case.given);
     if kind == 'B' {
+        let typed = ends_of(&case.given);
         let answer = bundle_of_bytes(&case.given);
         case.says(answer.map(|_| 0));
         assert_eq!(answer.unwrap_or([9; LABEL_BYTES]), case.due());
@@ -227,28 +227,33 @@ fn ends_case(kind: char, case: &Case) {
         assert!(typed.is_none_or(|ends| bundle(&ends) == label));
         return;
     }
-    let answer = star_of_bytes(&case.given, case.a, case.b);
-    case.says(
-        answer
-            .as_ref()
-            .map(|labels| labels.len() as u32)
-            .map_err(|&refusal| refusal),
-    );
-    let mut written = [9; LABEL_BYTES * MOST_ENDS];
-    if let Ok(labels) = &answer {
-        written.fill(0);
-        written[..LABEL_BYTES * labels.len()].copy_from_slice(labels.as_flattened());
+    // Room for 32 labels; those that are told stand in its front, and behind them the bytes are as they were.
+    let mut written = [9; 32 * LABEL_BYTES];
+    let answer = write_star(&case.given, case.a, case.b, &mut written);
+    case.says(answer.map(|count| count as u32));
+    let (front, rest) = written.split_at(LABEL_BYTES * answer.unwrap_or(0));
+    let due: [u8; 32 * LABEL_BYTES] = case.due();
+    assert_eq!(front, &due[..front.len()]);
+    assert!(rest.iter().all(|&byte| byte == 9));
+    if answer != Err(Refusal::NoRoom) {
+        listed_star(case, front.as_chunks().0, answer);
     }
-    assert_eq!(written, case.due());
+}
+
+/// The same star as a list of labels, by bytes and, where the bytes spell ends, by ends.
+fn listed_star(case: &Case, labels: &[[u8; LABEL_BYTES]], answer: Result<usize, Refusal>) {
+    let listed = star_of_bytes(&case.given, case.a, case.b);
+    assert_eq!(listed, answer.map(|_| labels.to_vec()));
     let areas = [case.a, case.b].map(|code| CoordPos::of_code(code.try_into().unwrap_or(4)));
-    if let (Some(ends), [Some(a), Some(b)]) = (typed, areas) {
+    if let (Some(ends), [Some(a), Some(b)]) = (ends_of(&case.given), areas) {
         let label = |bytes: &[u8; LABEL_BYTES]| Label::of_bytes(*bytes).expect("a label");
-        let labels = answer.map(|labels| labels.iter().map(label).collect());
+        let labels = listed.map(|labels| labels.iter().map(label).collect());
         assert_eq!(star(&ends, a, b), labels);
     }
 }
 
-/// N, D, E, F, C: a record poured; a report read, written in its long and its short form, converted.
+/// N, D, E, F, C, Z: a record poured; a report read, written in its long and its short form, converted; a record
+/// converted.
 fn record_case(kind: char, case: &Case) {
     let mut matrix = case.matrix();
     match kind {
@@ -266,6 +271,13 @@ fn record_case(kind: char, case: &Case) {
             let mut given = case.given.clone();
             let (report, buffer) = given.split_at_mut(case.dimension.into());
             let answer = convert_report(report, buffer, case.offset());
+            case.says(answer.map(|used| used as u32));
+            case.holds(&given);
+        }
+        'Z' => {
+            let mut given = case.given.clone();
+            let (record, buffer) = given.split_at_mut(case.a as usize);
+            let answer = convert_record(record, buffer, case.b as usize);
             case.says(answer.map(|used| used as u32));
             case.holds(&given);
         }
@@ -429,7 +441,7 @@ fn every_stored_answer() {
             'M' | 'W' | 'T' | 'R' => text_case(kind, &case),
             'O' | 'X' | 'S' | 'L' => cell_case(kind, &case),
             'B' | 'K' => ends_case(kind, &case),
-            'N' | 'D' | 'E' | 'F' | 'C' => record_case(kind, &case),
+            'N' | 'D' | 'E' | 'F' | 'C' | 'Z' => record_case(kind, &case),
             'A' | 'Y' => floor_case(kind, &case),
             'G' => place_case(&case),
             'I' => outline_case(&case),
@@ -444,7 +456,7 @@ fn every_stored_answer() {
     }
     assert_eq!(
         seen.len(),
-        25,
+        26,
         "a kind of line for each call of the library, one for the three of a floor in pieces"
     );
     // No line was passed over: the replay of the C interface has the same number.

@@ -10,6 +10,7 @@ use mathlib.Core.List.{
   _++_,
   map,
   append-assoc,
+  append-nil,
   List·Permᴰ,
   List·Permᴰ·nil,
   List·Permᴰ·cons,
@@ -30,7 +31,6 @@ use Rattle.ends.specs.Star.{keep, bundleAt, bundlesOf, joinedOf}
 use Rattle.ends.proofs.LawsDirection.{exchange, ahead-ahead, ahead-level, level-ahead, level-same, level-back}
 use Rattle.ends.proofs.LawsOrder.{All, none, more, all-map, all-both, Rising, flat, step, Good, GoodEnd}
 use Rattle.ends.proofs.LawsUnique.{Some, now, later, only-order}
-use Rattle.ends.proofs.LawsLists.{append-nil}
 use Rattle.order.specs.Words.{notAfter}
 use Rattle.order.proofs.LawsPerm.{all-perm, some-perm, count-perm}
 use Rattle.order.proofs.LawsWords.{before-or}

@@ -3,7 +3,7 @@
 use Prim.Native.Nat.{ℕ, zero, suc, _%_, _<_}
 use mathlib.Core.Path.{_≡_, refl, sym, ap, _∙_}
 use mathlib.Core.Bool.{Bool, true, false, cond}
-use mathlib.Core.List.{List, [], _∷_, _++_, map}
+use mathlib.Core.List.{List, [], _∷_, _++_, map, append-nil}
 use native.Mathlib.Omega.{arith}
 use borrow.Author.Tests.{ne-eqb}
 use lib.Dec.{eqb}
@@ -18,7 +18,6 @@ use Rattle.ends.specs.Inner.Axis.{onAxis, axisOf, unit}
 use Rattle.ends.specs.Star.{keep, bundleAt, bundlesOf}
 use Rattle.ends.proofs.LawsAxis.{axis-good, axis-unit, axis-same, axis-small, unit-good, unit-on, unit-axis}
 use Rattle.ends.proofs.LawsDirection.{level-back, level-level}
-use Rattle.ends.proofs.LawsLists.{append-nil}
 use Rattle.ends.proofs.LawsOrder.{all-map, all-both}
 use Rattle.ends.proofs.LawsUnique.{Some, now, later, some-map, own, only-order}
 use Rattle.order.proofs.LawsSorted.{all-append}

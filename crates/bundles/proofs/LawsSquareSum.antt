@@ -1,12 +1,11 @@
 -- A sum of ends on one axis: what one end more makes of it, and the label that it shows. Assumes nothing.
 use Prim.Native.Nat.{ℕ, _+_, _*_, _%_, _<_}
 use mathlib.Core.Path.{_≡_, refl, sym, ap, subst, _∙_}
-use mathlib.Core.List.{List, [], _∷_, _++_, append-assoc}
+use mathlib.Core.List.{List, [], _∷_, _++_, append-assoc, append-nil}
 use native.Mathlib.Omega.{arith}
 use lib.Bits.{bitOr, or-block, or-zero-r}
 use Rattle.ends.specs.declared.«edge_end».EdgeEnd.{EdgeEnd}
 use Rattle.ends.specs.Bundle.{count, joinOf}
-use Rattle.ends.proofs.LawsLists.{append-nil}
 use Rattle.bundles.specs.Marks.{oneMark, wordOf, joinWord}
 use Rattle.bundles.specs.Shown.{shownWord}
 use Rattle.bundles.specs.Square.{addAll, sumOf}

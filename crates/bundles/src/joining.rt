@@ -1,14 +1,14 @@
 // Words in order, read once: the marks of neighbours of one direction joined.
 use crate::marks::join;
 use ends::edge_end::Order;
-use ends::edge_end::compare;
+use ends::edge_end::turn;
 use order::key::on_axis;
 use order::pick::one;
 use order::pick::pick;
 use order::words::dir_at;
 use order::words::place;
 ghost use mathlib.Core.Path.{_≡_};
-ghost use Prim.Native.Nat.{_%_, _<_, _≤_};
+ghost use Prim.Native.Nat.{_/_, _%_, _<_, _≤_};
 ghost use lib.ListN.{length, take};
 ghost use Rattle.ends.specs.Direction.{isSame, sameDir};
 ghost use Rattle.ends.specs.Every.{All};
@@ -25,14 +25,14 @@ fn is_same(o: Order) -> bool
     }
 }
 
-// Two words of one key, by their directions.
+// Two words of one key, by their directions: these lie in one quadrant, so the product decides.
 fn same_tied(xs: &[i32], ys: &[i32], v: u32, w: u32) -> bool
-    requires { ⌜ (Word (now xs) (now ys) v) × (Word (now xs) (now ys) w) ⌝ }
+    requires { ⌜ (Word (now xs) (now ys) v) × (Word (now xs) (now ys) w) × (v / 1024 ≡ w / 1024) ⌝ }
     ensures { λ r. ⌜ r ≡ sameDir (dirOf (now (xs .entry)) (now (ys .entry)) v) (dirOf (now (xs .entry)) (now (ys .entry)) w) ⌝ }
 {
     let i = place(v);
     let j = place(w);
-    is_same(compare(dir_at(xs, ys, i), dir_at(xs, ys, j)))
+    is_same(turn(dir_at(xs, ys, i), dir_at(xs, ys, j)))
 }
 
 // Whether two words have one direction.
@@ -77,12 +77,18 @@ pub(crate) fn bundle(xs: &[i32], ys: &[i32], marks: &[u32], words: &[u32], out: 
     while i < n {
         let x = words[i];
         let m = mark_at(marks, x);
-        let s = same(xs, ys, w, x);
         out[count] = t;
+        i += 1;
+        if w / 1024 != x / 1024 {
+            count += 1;
+            t = m;
+            w = x;
+            continue;
+        }
+        let s = same(xs, ys, w, x);
         count += one(!s);
         t = pick(s, join(t, m), m);
-        w = pick(s, w, x);
-        i += 1;
+        w = x;
     }
     out[count] = t;
     count + 1

@@ -15,6 +15,7 @@ use Rattle.de9im.specs.declared.answer.Checked.{Checked}
 use Rattle.de9im.specs.declared.answer.Checked.the-variants.{Fine, Refused}
 use Rattle.de9im.proofs.LawsApart.{fine-refused}
 use Rattle.de9im.proofs.LawsBool.{neither}
+use Rattle.ends.specs.Count.{mostEnds}
 use Rattle.ends.specs.Direction.{zeroDir}
 use Rattle.ends.specs.Ends.{far, badDir, faultOf, orFault, firstFault, checkedOf, noEnd, Sound}
 use Rattle.ends.proofs.LawsLists.{rest, none-left}
@@ -53,15 +54,15 @@ fine-dir e h = go (badDir (e .dir)) refl
     go true k = fine-refused {r = Direction} (sym h ∙ rw k refl)
     go false k = neither (zeroDir (e .dir)) (far (e .dir .dx) || far (e .dir .dy)) k .0
 
--- ends that pass are at most 32, and no direction is 0, 0
-pub checked-sound : (ends : List EdgeEnd) (n : ℕ) → length ends ≡ 32 → checkedOf ends n ≡ Fine → Sound ends n
+-- ends that pass are at most so many as a call takes, and no direction is 0, 0
+pub checked-sound : (ends : List EdgeEnd) (n : ℕ) → length ends ≡ mostEnds → checkedOf ends n ≡ Fine → Sound ends n
 unfolding checkedOf
-checked-sound ends n len h = go (ltb 32 n) refl
+checked-sound ends n len h = go (ltb mostEnds n) refl
   where
-    go : (b : Bool) → ltb 32 n ≡ b → Sound ends n
+    go : (b : Bool) → ltb mostEnds n ≡ b → Sound ends n
     go true k = fine-refused {r = Ends} (sym h ∙ rw k refl)
     go false k =
-        let f : n ≤ 32 = ltb-false 32 n k in
+        let f : n ≤ mostEnds = ltb-false mostEnds n k in
         let a = all-fine (take n ends) (sym (rw k refl) ∙ h) in
         record {
           few = f;
@@ -70,7 +71,7 @@ checked-sound ends n len h = go (ltb 32 n) refl
         }
 
 -- ends that are sound have directions
-pub sound-good : (ends : List EdgeEnd) (n : ℕ) → length ends ≡ 32 → Sound ends n → All GoodEnd (take n ends)
+pub sound-good : (ends : List EdgeEnd) (n : ℕ) → length ends ≡ mostEnds → Sound ends n → All GoodEnd (take n ends)
 sound-good ends n len s =
     let l : length (take n ends) ≡ n = length-take-le n ends (omega (arith, s .few)) in
     at-all noEnd (take n ends) (λ i h. ap (λ e. zeroDir (e .dir)) (getD-take n ends i noEnd (omega arith)) ∙ s .sound i (omega arith))

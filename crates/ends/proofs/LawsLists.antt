@@ -1,12 +1,11 @@
 -- Laws of lists for loops over arrays, over any element type. Assumes nothing.
-use Prim.Native.Nat.{ℕ, zero, suc, _+_, _-_, _≤_, _<_}
+use Prim.Native.Nat.{ℕ, suc, _+_, _-_, _≤_, _<_}
 use mathlib.Core.Path.{_≡_, refl, sym, ap, _∙_}
 use mathlib.Core.List.{List, [], _∷_, _++_, map}
 use native.Mathlib.Omega.{arith}
-use native.Mathlib.Nat.{add-zero}
 use native.Mathlib.Numerals.{add-one}
 use lib.ListN.{length, take, drop, getD, set, replicate, length-append, drop-of-length-le}
-use lib.Seq.{drop-cons, getD-take, getD-drop, drop-drop, drop-set-lt, take-suc, take-suc-set, append-snoc, length-take-le, set-at}
+use lib.Seq.{drop-cons, getD-take, take-suc, append-snoc, length-take-le, set-at}
 
 module _ {X : Type 0} (z : X) where
   -- the rest of the first n, from one before its end
@@ -21,44 +20,9 @@ module _ {X : Type 0} (z : X) where
       let g : length (take n a) ≤ i = omega (arith, length-take-le n a k) in
       drop-of-length-le (take n a) g
 
-  pub head-same : (a b : List X) (i : ℕ) → drop i a ≡ drop i b → getD a i z ≡ getD b i z
-  head-same a b i e =
-      sym (rw add-zero at (getD-drop i a 0 z)) ∙ ap (λ l. getD l 0 z) e ∙ rw add-zero at (getD-drop i b 0 z)
-
-  -- one step of a shift: the carried c goes to i, what was there is carried on
-  pub shift : (a b : List X) (c : X) (i n : ℕ) → i < n → n ≤ length b → length a ≡ length b → drop i a ≡ drop i b
-      → take (i + 1) (set a i c) ++ getD a i z ∷ drop (i + 1) (take n b) ≡ take i a ++ c ∷ drop i (take n b)
-  shift a b c i n h k l e =
-      let g : i < length a = omega arith in
-      rw (head-same a b i e, ← rest b i n h k, add-one, take-suc-set a i c g) (append-snoc (take i a) c (drop i (take n b)))
-
-  pub shift-rest : (a b : List X) (c : X) (i : ℕ) → drop i a ≡ drop i b → drop (i + 1) (set a i c) ≡ drop (i + 1) b
-  shift-rest a b c i e = rw (drop-set-lt (i + 1) a i c (omega arith), ← drop-drop 1 i a, ← drop-drop 1 i b, e)
-
-  -- the last step: the place after the end
-  pub shift-last : (a b : List X) (c : X) (i n : ℕ) → i ≡ n → n < length a → n ≤ length b
-      → take (n + 1) (set a i c) ≡ take i a ++ c ∷ drop i (take n b)
-  shift-last a b c i n e h k =
-      let g : i < length a = omega arith in
-      rw (none-left b i n (omega arith) k, ← e, add-one, take-suc-set a i c g)
-
-pub append-nil : {X : Type 0} (l : List X) → l ++ [] ≡ l
-append-nil [] = refl
-append-nil (x ∷ xs) = ap (λ l. x ∷ l) (append-nil xs)
-
 pub map-append : {X Y : Type 0} (f : X → Y) (xs ys : List X) → map f (xs ++ ys) ≡ map f xs ++ map f ys
 map-append f [] ys = refl
 map-append f (x ∷ xs) ys = ap (λ l. f x ∷ l) (map-append f xs ys)
-
-pub map-take : {X Y : Type 0} (f : X → Y) (n : ℕ) (xs : List X) → map f (take n xs) ≡ take n (map f xs)
-map-take f zero xs = refl
-map-take f (suc n) [] = refl
-map-take f (suc n) (x ∷ xs) = ap (λ l. f x ∷ l) (map-take f n xs)
-
-pub map-drop : {X Y : Type 0} (f : X → Y) (n : ℕ) (xs : List X) → map f (drop n xs) ≡ drop n (map f xs)
-map-drop f zero xs = refl
-map-drop f (suc n) [] = refl
-map-drop f (suc n) (x ∷ xs) = map-drop f n xs
 
 -- one more of a list, at its end
 pub take-more : {X : Type 0} (z : X) (a : List X) (i : ℕ) → i < length a → take (i + 1) a ≡ take i a ++ (getD a i z ∷ [])

@@ -12,6 +12,7 @@ use Rattle.ends.specs.declared.«topology_position».Sides.{Sides}
 use Rattle.ends.specs.declared.label.Geometry.{Geometry}
 use Rattle.ends.specs.declared.label.Geometry.the-variants.{A, B}
 use Rattle.ends.specs.declared.label.Label.{Label}
+use Rattle.ends.specs.Count.{mostEnds}
 
 abbrev pub sideOf : Side → Sides → Position
 sideOf On s = s .on
@@ -66,6 +67,6 @@ sidesNone s = isNone (s .left) && isNone (s .right)
 abbrev pub blank : Label
 blank = record { area = false; a = noSides; b = noSides }
 
--- labels in an array of 32: every slot past them is a blank
+-- labels in an array as long as a call takes ends: every slot past them is a blank
 abbrev pub padded : List Label → List Label
-padded ls = ls ++ replicate (32 - length ls) blank
+padded ls = ls ++ replicate (mostEnds - length ls) blank

@@ -29,7 +29,8 @@ pub enum Order {
     After,
 }
 
-fn quad_of(x: bool, y: bool) -> u8
+// By whether dx and dy are below 0.
+pub fn quad_of(x: bool, y: bool) -> u8
     ensures { λ r. ⌜ r ≡ quad x y ⌝ }
 {
     if x {
@@ -74,8 +75,8 @@ fn half_cross(d: Dir, e: Dir) -> i64
     (d.dx as i64) * (e.dy as i64)
 }
 
-// The sign of the cross product, by comparing its halves: their difference need not fit.
-fn turn(d: Dir, e: Dir) -> Order
+// The sign of the cross product, by comparing its halves: their difference need not fit. In one quadrant it is the order.
+pub fn turn(d: Dir, e: Dir) -> Order
     ensures { λ r. ⌜ r ≡ turnOf d e ⌝ }
 {
     let p = half_cross(d, e);
@@ -180,11 +181,14 @@ pub fn fault(e: EdgeEnd) -> Checked
     )
 }
 
+// So many ends a bundle or star call takes.
+pub const MOST_ENDS: usize = 600;
+
 // The count, then each end in turn.
-pub fn check(ends: [EdgeEnd; 32], count: usize) -> Checked
+pub fn check(ends: [EdgeEnd; MOST_ENDS], count: usize) -> Checked
     ensures { λ r. ⌜ r ≡ checkedOf ends count ⌝ }
 {
-    if 32 < count {
+    if MOST_ENDS < count {
         return Checked::Refused(Refusal::Ends);
     }
     let mut i: usize = 0;

@@ -9,8 +9,7 @@ use lib.Dec.{eqb}
 use Rattle.de9im.specs.declared.answer.Checked.{Checked}
 use Rattle.de9im.specs.declared.answer.Checked.the-variants.{Fine, Refused}
 use Rattle.de9im.specs.Refused.{numberOf}
-use Rattle.pieces.specs.declared.lent.Pieces.{Pieces}
-use Rattle.pieces.specs.Lent.{HoldsLent}
+use Rattle.pieces.specs.Pieces.{Holds}
 use Rattle.plan.specs.declared.floor.FloorAnswer.{FloorAnswer}
 use Rattle.plan.specs.Floor.{floorOf}
 use Rattle.misonkandi.specs.Words.{refusalWord, checkedWord}
@@ -26,6 +25,6 @@ awaitedWord Fine = 0
 awaitedWord (Refused r) = cond (eqb (numberOf r) 1) 0 (refusalWord r)
 
 -- a push: the state stands for all bytes pushed so far, and the word says whether more may come
-pub record TellsPush (ns bs : List ℕ) (w : ℕ) (p : Pieces) : Type 0 where
-  pub holds : HoldsLent ns bs p
+pub record TellsPush (ns bs : List ℕ) (w : ℕ) (state : List ℕ) : Type 0 where
+  pub holds : Holds ns bs state
   pub word : w ≡ awaitedWord (floorOf ns bs .stop)

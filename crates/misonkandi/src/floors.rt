@@ -1,13 +1,13 @@
-// A floor over C: a run of records in one slice, or in pieces with a state that the caller lends. The earlier records stay where one is
-// refused, so the cells and the counts are written whatever is answered.
+// A floor over C: a run of records in one slice, or in pieces with a state of plain bytes that the caller lends. The earlier records stay
+// where one is refused, so the cells and the counts are written whatever is answered.
 use crate::words::checked_word;
 use crate::words::refusal_word;
 use de9im::answer::Checked;
 use de9im::refusal::number;
-use pieces::lent::Pieces;
-use pieces::lent::finish_lent;
-use pieces::lent::push_lent;
-use pieces::lent::start_lent;
+use pieces::pieces::finish;
+use pieces::pieces::push;
+use pieces::pieces::start;
+use pieces::state::STATE;
 use plan::floor::FloorAnswer;
 use plan::floor::floor;
 ghost use mathlib.Core.Path.{_≡_};
@@ -15,8 +15,7 @@ ghost use mathlib.Core.List.{List, [], _++_};
 ghost use Prim.Native.Nat.{ℕ, _<_};
 ghost use Rattle.de9im.specs.Answers.{checkedPlace};
 ghost use Rattle.de9im.specs.Refused.{spotNo};
-ghost use Rattle.pieces.specs.Lent.{HoldsLent};
-ghost use Rattle.pieces.specs.Pieces.{countedAs};
+ghost use Rattle.pieces.specs.Pieces.{countedAs, Holds};
 ghost use Rattle.plan.specs.Floor.{floorOf};
 ghost use Rattle.misonkandi.specs.Floors.{TellsFloor, awaitedWord, TellsPush};
 
@@ -40,10 +39,10 @@ pub extern "C" fn misonkandi_floor(cells: &mut [u8; 9], bytes: &[u8], answer: &m
 }
 
 #[no_mangle]
-pub extern "C" fn misonkandi_start(state: &mut Pieces, cells: &[u8; 9])
-    ensures { λ _. ⌜ HoldsLent (now (cells .entry)) [] (now (state .exit)) ⌝ }
+pub extern "C" fn misonkandi_start(state: &mut [u8; STATE], cells: &[u8; 9])
+    ensures { λ _. ⌜ Holds (now (cells .entry)) [] (now (state .exit)) ⌝ }
 {
-    *state = start_lent(cells);
+    start(*cells, state);
 }
 
 // Nothing is refused, or a part of a record waits for more: 0.
@@ -62,39 +61,25 @@ fn awaited_word(stop: Checked) -> u32
     }
 }
 
-fn push_word(p: Pieces) -> u32
-    ensures { λ w. ⌜ ((ns bs : List ℕ) → HoldsLent ns bs p → w ≡ awaitedWord (floorOf ns bs .stop)) ⌝ }
+#[no_mangle]
+pub extern "C" fn misonkandi_push(state: &mut [u8; STATE], bytes: &[u8]) -> u32
+    ensures { λ w. ⌜ ((ns bs : List ℕ) → Holds ns bs (now (state .entry))
+        → TellsPush ns (bs ++ now (bytes .entry)) w (now (state .exit))) ⌝ }
 {
-    let f = finish_lent(p);
+    push(state, bytes);
+    let f = finish(state);
     let stop = f.stop;
     awaited_word(stop)
 }
 
 #[no_mangle]
-pub extern "C" fn misonkandi_push(state: &mut Pieces, bytes: &[u8]) -> u32
-    ensures { λ w. ⌜ ((ns bs : List ℕ) → HoldsLent ns bs (now (state .entry))
-        → TellsPush ns (bs ++ now (bytes .entry)) w (now (state .exit))) ⌝ }
-{
-    let s = push_lent(*state, bytes);
-    *state = s;
-    push_word(s)
-}
-
-fn put_finish(p: Pieces, cells: &mut [u8; 9], answer: &mut [u64; 2]) -> u32
-    ensures { λ w. ⌜ ((ns bs : List ℕ) → HoldsLent ns bs p
-        → TellsFloor (countedAs (floorOf ns bs)) w (now (cells .exit)) (now (answer .exit))) ⌝ }
-{
-    put_floor(finish_lent(p), cells, answer)
-}
-
-#[no_mangle]
 pub extern "C" fn misonkandi_finish(
-    state: &Pieces,
+    state: &[u8; STATE],
     cells: &mut [u8; 9],
     answer: &mut [u64; 2],
 ) -> u32
-    ensures { λ w. ⌜ ((ns bs : List ℕ) → HoldsLent ns bs (now (state .entry))
+    ensures { λ w. ⌜ ((ns bs : List ℕ) → Holds ns bs (now (state .entry))
         → TellsFloor (countedAs (floorOf ns bs)) w (now (cells .exit)) (now (answer .exit))) ⌝ }
 {
-    put_finish(*state, cells, answer)
+    put_floor(finish(state), cells, answer)
 }

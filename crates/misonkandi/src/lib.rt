@@ -1,6 +1,7 @@
 // The C interface: few functions on numbers and byte slices, over the proved crates. misonkandi.h, beside src/, declares
 // them for C; a matrix crosses as its nine flat numbers, an answer as one word.
 pub mod changes;
+pub mod conversions;
 pub mod floors;
 pub mod outlines;
 pub mod places;

@@ -4,89 +4,23 @@ use crate::changes::coded_pair;
 use crate::words::checked_word;
 use crate::words::refusal_word;
 use de9im::answer::Checked;
-use de9im::coordinate_position::Position;
 use de9im::refusal::Refusal;
-use ends::label::Label;
-use ends::topology_position::code;
-use plan::end_bytes::read_ends;
+use labels::bundle_call::bundle_bytes;
+use labels::count::counted;
+use labels::label_bytes::seven_bytes;
+use labels::star_call::LabelsPut;
+use labels::star_call::star_bytes;
 use star::edge_end_bundle::Bundled;
-use star::edge_end_bundle::bundle;
-use star::edge_end_bundle_star::Labeled;
-use star::edge_end_bundle_star::star;
 ghost use mathlib.Core.Path.{_≡_};
 ghost use Prim.Native.Nat.{_≤_, _<_};
-ghost use lib.ListN.{length, take};
 ghost use Rattle.de9im.specs.Answers.{checkedPlace};
 ghost use Rattle.de9im.specs.Refused.{spotNo};
 ghost use Rattle.star.specs.Answers.{bundledPlace};
 ghost use Rattle.plan.specs.EndBytes.{endsCall};
+ghost use Rattle.labels.specs.Calls.{bundleCall};
 ghost use Rattle.misonkandi.specs.Changes.{pairOf};
-ghost use Rattle.misonkandi.specs.Words.{bitOf};
-ghost use Rattle.misonkandi.specs.Stars.{
-  labelBytes,
-  labelsBytes,
-  filledBytes,
-  bundleWord,
-  bundleBytes,
-  bundleCall,
-  countOf,
-  starWord,
-  starBytes,
-  starOn,
-  starBytesCall,
-};
-
-fn kind(area: bool) -> u8
-    ensures { λ r. ⌜ r ≡ bitOf area ⌝ }
-{
-    if area { 1 } else { 0 }
-}
-
-fn seven_bytes(l: Label) -> [u8; 7]
-    ensures { λ r. ⌜ r ≡ labelBytes l ⌝ }
-{
-    let a = l.a;
-    let on_a = a.on;
-    let left_a = a.left;
-    let right_a = a.right;
-    let b = l.b;
-    let on_b = b.on;
-    let left_b = b.left;
-    let right_b = b.right;
-    [
-        kind(l.area),
-        code(on_a),
-        code(left_a),
-        code(right_a),
-        code(on_b),
-        code(left_b),
-        code(right_b),
-    ]
-}
-
-// The bytes of the first count labels, zeros after them.
-fn all_bytes(labels: [Label; 32], count: usize) -> [u8; 224]
-    requires { ⌜ count ≤ 32 ⌝ }
-    ensures { λ r. ⌜ r ≡ filledBytes (labelsBytes (take count labels)) ⌝ }
-{
-    let mut out = [0u8; 224];
-    let mut i: usize = 0;
-    let mut p: usize = 0;
-    while i < count {
-        let l = labels[i];
-        let w = seven_bytes(l);
-        out[p] = w[0];
-        out[p + 1] = w[1];
-        out[p + 2] = w[2];
-        out[p + 3] = w[3];
-        out[p + 4] = w[4];
-        out[p + 5] = w[5];
-        out[p + 6] = w[6];
-        i += 1;
-        p += 7;
-    }
-    out
-}
+ghost use Rattle.misonkandi.specs.Words.{wordOr};
+ghost use Rattle.misonkandi.specs.Stars.{bundleWord, bundleBytes, starBytesCall, StarTold};
 
 fn put_bundle(b: Bundled, out: &mut [u8; 7]) -> u32
     requires { ⌜ spotNo (bundledPlace b) < 9 ⌝ }
@@ -108,63 +42,26 @@ pub extern "C" fn misonkandi_bundle(ends: &[u8], label: &mut [u8; 7]) -> u32
     ensures { λ w. ⌜ (w ≡ bundleWord (bundleCall (endsCall (now (ends .entry)))))
         × (now (label .exit) ≡ bundleBytes (bundleCall (endsCall (now (ends .entry)))) (now (label .entry))) ⌝ }
 {
-    let n = ends.len() / 15;
-    let read = read_ends(ends);
-    let answer = read.answer;
-    let es = read.ends;
+    put_bundle(bundle_bytes(ends), label)
+}
+
+// The number of labels, or the refusal.
+fn put_word(put: LabelsPut) -> u32
+    requires { ⌜ (spotNo (checkedPlace (put .answer)) < 9) × (put .count ≤ 600) ⌝ }
+    ensures { λ w. ⌜ w ≡ wordOr (put .answer) (put .count) ⌝ }
+{
+    let answer = put.answer;
     let Checked::Fine = answer else {
         return checked_word(answer);
     };
-    put_bundle(bundle(es, n), label)
+    put.count as u32
 }
 
-fn put_star(s: Labeled, out: &mut [u8; 224]) -> u32
-    requires { ⌜ (s .count ≤ 32) × (spotNo (checkedPlace (s .answer)) < 9) ⌝ }
-    ensures { λ w. ⌜ (w ≡ starWord s) × (now (out .exit) ≡ starBytes s (now (out .entry))) ⌝ }
-{
-    let answer = s.answer;
-    let labels = s.labels;
-    let count = s.count;
-    let Checked::Fine = answer else {
-        return checked_word(answer);
-    };
-    let written = all_bytes(labels, count);
-    *out = written;
-    count as u32
-}
-
-fn star_at(ends: &[u8], p: Position, q: Position, labels: &mut [u8; 224]) -> u32
-    ensures { λ w. ⌜ (w ≡ starWord (starOn (endsCall (now (ends .entry))) p q))
-        × (now (labels .exit) ≡ starBytes (starOn (endsCall (now (ends .entry))) p q) (now (labels .entry))) ⌝ }
-{
-    let n = ends.len() / 15;
-    let read = read_ends(ends);
-    let answer = read.answer;
-    let es = read.ends;
-    let Checked::Fine = answer else {
-        return checked_word(answer);
-    };
-    put_star(star(es, n, p, q), labels)
-}
-
-// How many ends the bytes are, as a record looks at it before anything behind the count.
-fn counted(count: usize) -> Checked
-    ensures { λ r. ⌜ r ≡ countOf count ⌝ }
-{
-    if count % 15 != 0 {
-        return Checked::Refused(Refusal::Length);
-    }
-    if 32 < count / 15 {
-        return Checked::Refused(Refusal::Ends);
-    }
-    Checked::Fine
-}
-
-// The completed labels of a star, in order. Checked in a record's order: the count, the area positions, the ends.
+// The completed labels of a star, in order, in the front of the buffer. Checked in a record's order: the count, the area positions, the
+// ends; and last whether the labels fit.
 #[no_mangle]
-pub extern "C" fn misonkandi_star(ends: &[u8], a: u32, b: u32, labels: &mut [u8; 224]) -> u32
-    ensures { λ w. ⌜ (w ≡ starWord (starBytesCall (now (ends .entry)) (pairOf a b)))
-        × (now (labels .exit) ≡ starBytes (starBytesCall (now (ends .entry)) (pairOf a b)) (now (labels .entry))) ⌝ }
+pub extern "C" fn misonkandi_star(ends: &[u8], a: u32, b: u32, labels: &mut [u8]) -> u32
+    ensures { λ w. ⌜ StarTold (starBytesCall (now (ends .entry)) (pairOf a b)) (now (labels .entry)) w (now (labels .exit)) ⌝ }
 {
     let count = counted(ends.len());
     let Checked::Fine = count else {
@@ -173,5 +70,5 @@ pub extern "C" fn misonkandi_star(ends: &[u8], a: u32, b: u32, labels: &mut [u8;
     let Pair::Is(p, q) = coded_pair(a, b) else {
         return refusal_word(Refusal::PositionCode);
     };
-    star_at(ends, p, q, labels)
+    put_word(star_bytes(ends, p, q, labels))
 }

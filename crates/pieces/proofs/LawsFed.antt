@@ -20,8 +20,9 @@ use Rattle.frame.specs.Words.{promised}
 use Rattle.plan.specs.declared.floor.FloorAnswer.{FloorAnswer}
 use Rattle.plan.specs.Floor.{stoppedAs, behind, floorOf}
 use Rattle.plan.proofs.LawsFloor.{floor-empty, floor-used, floor-left}
-use Rattle.pieces.specs.declared.pieces.State.{State}
-use Rattle.pieces.specs.Pieces.{frontSize, Kept}
+use Rattle.pieces.specs.declared.state.Counted.{Counted}
+use Rattle.pieces.specs.State.{frontSize}
+use Rattle.pieces.specs.Pieces.{Kept}
 use Rattle.pieces.specs.Inner.Joining.{added, stopAt, waiting, Fed}
 use Rattle.pieces.proofs.LawsLists.{take-both, take-least, take-twice}
 use Rattle.pieces.proofs.LawsPieces.{added-twice}
@@ -33,10 +34,10 @@ nothing [] e = refl
 nothing (b ∷ l) e = absurd (omega arith)
 
 -- fed in place: the front of what is left is held
-module _ (g f a : FloorAnswer) (bytes held blank : List ℕ) (l : ℕ) (is-f : f ≡ floorOf (g .cells) bytes) (is-a : a ≡ added g f)
+module _ (g f a : FloorAnswer) (bytes old held : List ℕ) (l : ℕ) (is-f : f ≡ floorOf (g .cells) bytes) (is-a : a ≡ added g f)
     (least : l ≡ min (length bytes - f .used) frontSize) (room : length held ≡ frontSize)
     (laid : take (0 + length (take (f .used + l - f .used) (drop (f .used) bytes))) held
-    ≡ take 0 blank ++ take (f .used + l - f .used) (drop (f .used) bytes)) where
+    ≡ take 0 old ++ take (f .used + l - f .used) (drop (f .used) bytes)) where
   tail-front : take (f .used + l - f .used) (drop (f .used) bytes) ≡ frontOf (drop (f .used) bytes)
   tail-front =
       let n = length-drop (f .used) bytes in
@@ -52,13 +53,12 @@ module _ (g f a : FloorAnswer) (bytes held blank : List ℕ) (l : ℕ) (is-f : f
       omega (arith, length-take (f .used + l - f .used) (drop (f .used) bytes)) in
       sym (take-least (length bytes - f .used) frontSize held (omega arith)) ∙ ap (λ (i : ℕ). take i held) k ∙ laid ∙ tail-front
 
-  pub fed-feed : Fed g bytes (record { floor = a; held = held; count = length bytes - f .used })
+  pub fed-feed : Fed g bytes (record { floor = a; count = length bytes - f .used }) held
   fed-feed =
       record {
         floor = is-a ∙ ap (added g) is-f;
         rest = λ e.
-            let s : State = record { floor = a; held = held; count = length bytes - f .used } in
-            subst (λ (x : FloorAnswer). Kept (drop (x .used) bytes) s) is-f
+            subst (λ (x : FloorAnswer). Kept (drop (x .used) bytes) (length bytes - f .used) held) is-f
             (record { count = sym (length-drop (f .used) bytes); front = tail-held });
       }
 
@@ -93,7 +93,7 @@ module _ (rest new old held : List ℕ) (count at more : ℕ) (all-of : count �
     within = rw is-asked (floor-used (g .cells) (frontOf (rest ++ new)))
 
     -- the part was accepted: what follows it is fed
-    module _ (past : at < f .used) (r : State) (fed : Fed (added g f) (drop (f .used - at) new) r) where
+    module _ (past : at < f .used) (r : Counted) (last : List ℕ) (fed : Fed (added g f) (drop (f .used - at) new) r last) where
       at-end : at ≡ length rest
       at-end = by (asked (g .cells) rest new part)
         where
@@ -115,7 +115,7 @@ module _ (rest new old held : List ℕ) (count at more : ℕ) (all-of : count �
           ap (λ (x : FloorAnswer). behind (x .used) (x .records) (floorOf (x .cells) (drop (x .used) (rest ++ new)))) (sym is-asked) ∙
           ap (λ (l : List ℕ). behind (f .used) (f .records) (floorOf (f .cells) l)) behind-it
 
-      pub fed-past : Fed g (rest ++ new) r
+      pub fed-past : Fed g (rest ++ new) r last
       fed-past =
           let x = floorOf (f .cells) (drop (f .used - at) new) in
           let d : drop (x .used) (drop (f .used - at) new) ≡ drop (f .used + x .used) (rest ++ new) =
@@ -123,8 +123,8 @@ module _ (rest new old held : List ℕ) (count at more : ℕ) (all-of : count �
           record {
             floor = fed .floor ∙ added-twice g f x ∙ ap (added g) (sym answer);
             rest = λ e.
-                subst (λ (y : FloorAnswer). Kept (drop (y .used) (rest ++ new)) r) (sym answer)
-                (subst (λ (l : List ℕ). Kept l r) d (fed .rest e));
+                subst (λ (y : FloorAnswer). Kept (drop (y .used) (rest ++ new)) (r .count) last) (sym answer)
+                (subst (λ (l : List ℕ). Kept l (r .count) last) d (fed .rest e));
           }
 
     -- the part was not accepted: it is refused, or waits for more
@@ -132,13 +132,13 @@ module _ (rest new old held : List ℕ) (count at more : ℕ) (all-of : count �
       abbrev need : ℕ
       need = 2 + promised held
 
-      abbrev left : State
+      abbrev left : Counted
       left = waiting g held count (length new) (f .stop)
 
       come : min need (count + length new) ≡ min need (length (rest ++ new))
       come = ap (min need) (sym whole)
 
-      kept : floorOf (g .cells) (rest ++ new) ≡ stoppedAs (left .floor .stop) (g .cells) → Fed g (rest ++ new) left
+      kept : floorOf (g .cells) (rest ++ new) ≡ stoppedAs (left .floor .stop) (g .cells) → Fed g (rest ++ new) left held
       kept e =
           record {
             floor = ap (added g) (sym e);
@@ -154,7 +154,7 @@ module _ (rest new old held : List ℕ) (count at more : ℕ) (all-of : count �
                 });
           }
 
-      pub fed-waiting : Fed g (rest ++ new) left
+      pub fed-waiting : Fed g (rest ++ new) left held
       fed-waiting = kept (by (asked (g .cells) rest new part))
         where
           empty : length (rest ++ new) ≡ 0 → stopAt (g .cells) held need (min need (count + length new)) Fine ≡ Fine

@@ -26,9 +26,8 @@ use Rattle.plan.proofs.LawsAfter.{spent, later-bytes}
 use Rattle.plan.proofs.LawsFloor.{floor-empty, floor-refused, floor-accepted, floor-used, floor-more, floor-part, floor-left}
 use Rattle.plan.proofs.LawsLong.{Long, RefusedAlike, long-alike}
 use Rattle.plan.proofs.LawsPart.{short-answer}
-use Rattle.pieces.specs.declared.pieces.State.{State}
-use Rattle.pieces.specs.Pieces.{frontSize, Kept}
-use Rattle.pieces.specs.Inner.Joining.{added, cutDown, stopAt, waiting, Fed}
+use Rattle.pieces.specs.State.{frontSize}
+use Rattle.pieces.specs.Inner.Joining.{cutDown, stopAt}
 use Rattle.pieces.proofs.LawsLists.{take-both, take-least}
 use Rattle.pieces.proofs.LawsPieces.{added-twice}
 
@@ -128,15 +127,16 @@ module _ (c all held : List ℕ) (room : length held ≡ frontSize) (is : take (
       let e = full (omega arith) in
       let q = promises (omega arith) in
       let at : (k : ℕ) → 1 < k → k < frontSize → byteAt all k ≡ byteAt (cutDown held) k = λ k i j.
-      sym (getD-set-other (set held 0 1) 1 k 232 0 (λ z. omega arith) ∙ getD-set-other held 0 k 1 0 (λ z. omega arith) ∙
+      sym (getD-set-other (set held 0 35) 1 k 49 0 (λ z. omega arith) ∙ getD-set-other held 0 k 35 0 (λ z. omega arith) ∙
       ap (λ (l : List ℕ). getD l k 0) e ∙ getD-take frontSize all k 0 j) in
-      let first : byteAt (cutDown held) 0 ≡ 1 =
-      getD-set-other (set held 0 1) 1 0 232 0 (λ z. omega arith) ∙ getD-set-same held 0 1 0 (omega arith) in
-      let second : byteAt (cutDown held) 1 ≡ 232 = getD-set-same (set held 0 1) 1 232 0 (omega (arith, length-set held 0 1)) in
-      let size : length (cutDown held) ≡ frontSize = length-set (set held 0 1) 1 232 ∙ length-set held 0 1 ∙ room in
+      let first : byteAt (cutDown held) 0 ≡ 35 =
+      getD-set-other (set held 0 35) 1 0 49 0 (λ z. omega arith) ∙ getD-set-same held 0 35 0 (omega arith) in
+      let second : byteAt (cutDown held) 1 ≡ 49 = getD-set-same (set held 0 35) 1 49 0 (omega (arith, length-set held 0 35)) in
+      let size : length (cutDown held) ≡ frontSize = length-set (set held 0 35) 1 49 ∙ length-set held 0 35 ∙ room in
       long-alike c all (cutDown held) (record { long = omega arith; whole = omega arith })
       (record { long = omega (arith, first, second); whole = omega (arith, first, second) })
       (at 2 (omega arith) (omega arith)) (at 3 (omega arith) (omega arith)) (at 8 (omega arith) (omega arith))
+      (at 9 (omega arith) (omega arith))
 
   long : RefusedAlike c all (cutDown held) → floorOf c all ≡ stoppedAs (floorOf c (cutDown held) .stop) c
   long x = x .one ∙ ap (λ (f : FloorAnswer). stoppedAs (f .stop) c) (sym (x .other))

@@ -5,8 +5,20 @@ use mathlib.Core.List.{List, [], _∷_, _++_, append-nil, append-assoc}
 use native.Mathlib.Omega.{arith}
 use borrow.Rule.Slice.PartMut.{midOf, putMid, post-is}
 use lib.Dec.{leb}
-use lib.ListN.{length, take, drop, length-take, length-drop, length-append}
-use lib.Seq.{take-all, take-take, take-length, drop-length, take-append-seam, take-append-le, take-append-add, length-take-le}
+use lib.ListN.{length, take, drop, getD, set, length-take, length-drop, length-append}
+use lib.Seq.{
+  take-all,
+  take-take,
+  take-length,
+  drop-length,
+  take-append-seam,
+  take-append-le,
+  take-append-add,
+  length-take-le,
+  set-comm,
+  set-set,
+  set-getD,
+}
 use borrow.Author.Tests.{leb-true, leb-false}
 use Rattle.de9im.proofs.LawsBool.{told}
 
@@ -63,3 +75,11 @@ laid n xs word ys at size h e =
     let a : at + length word ≡ length (take at xs ++ word) = omega (arith, length-append (take at xs) word) in
     rw (← append-assoc (take at xs) word (drop (length word) (drop at xs)), a) (take-append-seam (take at xs ++ word) _)
     )
+
+-- two elements stored over, and put back
+pub put-back : (l : List ℕ) (a b : ℕ) → set (set (set (set l 0 a) 1 b) 0 (getD l 0 0)) 1 (getD l 1 0) ≡ l
+put-back l a b =
+    let first : set (set (set l 0 a) 1 b) 0 (getD l 0 0) ≡ set l 1 b =
+    set-comm (set l 0 a) 1 0 b (getD l 0 0) (λ z. omega arith) ∙
+    ap (λ (m : List ℕ). set m 1 b) (set-set l 0 a (getD l 0 0) ∙ set-getD l 0 0) in
+    ap (λ (m : List ℕ). set m 1 (getD l 1 0)) first ∙ set-set l 1 b (getD l 1 0) ∙ set-getD l 1 0

@@ -17,8 +17,8 @@ use Rattle.frame.specs.Rules.{short}
 use Rattle.plan.specs.declared.floor.FloorAnswer.{FloorAnswer}
 use Rattle.plan.specs.Floor.{behind, floorOf}
 use Rattle.plan.proofs.LawsFloor.{floor-used, floor-all, floor-records, floor-more, floor-left, floor-settled}
-use Rattle.pieces.specs.declared.pieces.State.{State}
-use Rattle.pieces.specs.Pieces.{countedAs, Kept, Holds}
+use Rattle.pieces.specs.declared.state.Counted.{Counted}
+use Rattle.pieces.specs.Pieces.{countedAs, Kept, HoldsIn}
 use Rattle.pieces.specs.Inner.Joining.{added, Fed}
 use Rattle.de9im.proofs.LawsApart.{impossible}
 
@@ -44,11 +44,11 @@ added-twice g f h =
     refl
 
 -- the bytes that were not used, and more behind them
-module _ (ns bs new : List ℕ) (s r : State) (holds : Holds ns bs s) where
-  pub goes-on : Fed (s .floor) (drop (floorOf ns bs .used) bs ++ new) r → Holds ns (bs ++ new) r
+module _ (ns bs new : List ℕ) (s r : Counted) (held now : List ℕ) (holds : HoldsIn ns bs s held) where
+  pub goes-on : Fed (s .floor) (drop (floorOf ns bs .used) bs ++ new) r now → HoldsIn ns (bs ++ new) r now
   goes-on fed = by (rw (holds .floor) at fed)
     where
-      by : Fed (countedAs (floorOf ns bs)) (drop (floorOf ns bs .used) bs ++ new) r → Holds ns (bs ++ new) r
+      by : Fed (countedAs (floorOf ns bs)) (drop (floorOf ns bs .used) bs ++ new) r now → HoldsIn ns (bs ++ new) r now
       by fed =
           let g = floorOf ns bs in
           let f = floorOf (g .cells) (drop (g .used) bs ++ new) in
@@ -58,28 +58,28 @@ module _ (ns bs new : List ℕ) (s r : State) (holds : Holds ns bs s) where
           record {
             floor = fed .floor ∙ added-counted g f ∙ ap countedAs (sym more);
             rest = λ e.
-                subst (λ (x : FloorAnswer). Kept (drop (x .used) (bs ++ new)) r) (sym more)
-                (subst (λ (l : List ℕ). Kept l r) d (fed .rest e));
+                subst (λ (x : FloorAnswer). Kept (drop (x .used) (bs ++ new)) (r .count) now) (sym more)
+                (subst (λ (l : List ℕ). Kept l (r .count) now) d (fed .rest e));
           }
 
   -- where all were used
-  pub goes-fine : s .floor .stop ≡ Fine → Fed (s .floor) new r → Holds ns (bs ++ new) r
+  pub goes-fine : s .floor .stop ≡ Fine → Fed (s .floor) new r now → HoldsIn ns (bs ++ new) r now
   goes-fine e fed =
       let all = floor-all ns bs (sym (ap (λ (x : FloorAnswer). x .stop) (holds .floor)) ∙ e) in
       let none : drop (floorOf ns bs .used) bs ≡ [] = ap (λ (k : ℕ). drop k bs) all ∙ drop-length bs in
       goes-on (rw none fed)
 
   -- a record that is refused for good
-  pub stays : (x : Refusal) → s .floor .stop ≡ Refused x → (x ≡ Short → ⊥) → Holds ns (bs ++ new) s
+  pub stays : (x : Refusal) → s .floor .stop ≡ Refused x → (x ≡ Short → ⊥) → HoldsIn ns (bs ++ new) s held
   stays x e n =
       let same = floor-settled ns bs new x (sym (ap (λ (y : FloorAnswer). y .stop) (holds .floor)) ∙ e) n in
       let apart : s .floor .stop ≡ Refused Short → x ≡ Short = λ q. cc in
       record { floor = holds .floor ∙ ap countedAs (sym same); rest = λ q. absurd (n (apart q)) }
 
 -- what is left is a part of a record
-pub short-left : (ns bs : List ℕ) (s : State) → Holds ns bs s → s .floor .stop ≡ Refused Short
+pub short-left : (ns bs : List ℕ) (s : Counted) (held : List ℕ) → HoldsIn ns bs s held → s .floor .stop ≡ Refused Short
     → short (drop (floorOf ns bs .used) bs) ≡ true
-short-left ns bs s h e = floor-left ns bs (sym (ap (λ (y : FloorAnswer). y .stop) (h .floor)) ∙ e)
+short-left ns bs s held h e = floor-left ns bs (sym (ap (λ (y : FloorAnswer). y .stop) (h .floor)) ∙ e)
 
 -- only refusal 1 is a part of a record
 pub one-is-short : (r : Refusal) → numberOf r ≡ 1 → r ≡ Short

@@ -1,26 +1,23 @@
-// The front of a record whose bytes come in pieces. No accepted record has more than 489 bytes, so 490 of them tell all there is to
-// tell: a record that has come whole and is longer is refused by its front alone.
+// The front of a record whose bytes come in pieces, in place. No accepted record has more than 9,010 bytes, so 9,011 of them tell all there
+// is to tell: a record that has come whole and is longer is refused by its front alone.
+use de9im::answer::Checked;
+use de9im::cells::Cells;
+use plan::floor::floor;
 ghost use mathlib.Core.Path.{_≡_};
 ghost use mathlib.Core.List.{_++_};
 ghost use Prim.Native.Nat.{_+_, _≤_, min};
 ghost use lib.ListN.{length, take};
-ghost use Rattle.pieces.specs.Pieces.{frontSize};
+ghost use Rattle.plan.specs.Floor.{floorOf};
+ghost use Rattle.pieces.specs.State.{frontSize};
 ghost use Rattle.pieces.specs.Inner.Joining.{cutDown};
 
 // One byte more than the longest accepted record.
-pub const FRONT: usize = 490;
+pub const FRONT: usize = 9011;
 
-// The length field of a record of that many bytes, 488.
-const HIGH: u8 = 1;
+// The length field of a record of that many bytes, 9,009.
+const HIGH: u8 = 35;
 
-const LOW: u8 = 232;
-
-// Nothing held yet.
-pub(crate) fn blank() -> [u8; FRONT]
-    ensures { λ r. ⌜ frontSize ≡ length r ⌝ }
-{
-    [0u8; FRONT]
-}
+const LOW: u8 = 49;
 
 pub(crate) fn least(a: usize, b: usize) -> usize
     ensures { λ r. ⌜ r ≡ min a b ⌝ }
@@ -39,21 +36,25 @@ pub(crate) fn grown(count: usize, more: usize, need: usize) -> usize
 }
 
 // Bytes laid behind the first `at`.
-pub(crate) fn laid(held: [u8; FRONT], at: usize, word: &[u8]) -> [u8; FRONT]
-    requires { ⌜ at + length (now word) ≤ frontSize ⌝ }
-    ensures { λ r. ⌜ take (at + length (now (word .entry))) r ≡ take at held ++ now (word .entry) ⌝ }
+pub(crate) fn lay(held: &mut [u8], at: usize, word: &[u8])
+    requires { ⌜ at + length (now word) ≤ length (now held) ⌝ }
+    ensures { λ _. ⌜ take (at + length (now (word .entry))) (now (held .exit)) ≡ take at (now (held .entry)) ++ now (word .entry) ⌝ }
 {
-    let mut all = held;
-    bytes::copy(word, &mut all[at..]);
-    all
+    bytes::copy(word, &mut held[at..]);
 }
 
-// The front with its length field cut down to what the front holds: longer than any accepted record, and whole.
-pub(crate) fn cut_down(held: [u8; FRONT]) -> [u8; FRONT]
-    ensures { λ r. ⌜ r ≡ cutDown held ⌝ }
+// Why a front stops whose record has come whole, longer than any accepted one: it is asked with its length field cut down to what the front
+// holds, and is then as it was.
+pub(crate) fn stop_cut_down(cells: Cells, held: &mut [u8]) -> Checked
+    requires { ⌜ length (now held) ≡ frontSize ⌝ }
+    ensures { λ r. ⌜ (r ≡ floorOf cells (cutDown (now (held .entry))) .stop) × (now (held .exit) ≡ now (held .entry)) ⌝ }
 {
-    let mut all = held;
-    all[0] = HIGH;
-    all[1] = LOW;
-    all
+    let high = held[0];
+    let low = held[1];
+    held[0] = HIGH;
+    held[1] = LOW;
+    let f = floor(cells, held);
+    held[0] = high;
+    held[1] = low;
+    f.stop
 }

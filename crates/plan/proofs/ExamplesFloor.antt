@@ -13,22 +13,22 @@ use Rattle.plan.specs.EndBytes.{readEnds}
 use Rattle.plan.specs.Floor.{fed, floorOf}
 use Rattle.plan.specs.LabelBytes.{sidesAt, labelAt}
 use Rattle.plan.specs.Record.{recordOf}
-use Rattle.plan.specs.Said.{edgeOf, nodeAt, nodeBody, nodeOf, saidOf}
+use Rattle.plan.specs.Said.{formOf, edgeOf, nodeAt, nodeBody, nodeOf, saidOf}
 use Rattle.plan.proofs.LawsFloor.{floor-empty}
 
--- a node inside both, an isolated line inside A and on B's boundary, and a record of kind 3
+-- a node inside both, an isolated line of version 2 inside A and on B's boundary, and a record of kind 3
 abbrev aNode : List ℕ
 aNode = 0 ∷ 7 ∷ 1 ∷ 1 ∷ 1 ∷ 1 ∷ 0 ∷ 0 ∷ 0 ∷ []
 
 abbrev anEdge : List ℕ
-anEdge = 0 ∷ 9 ∷ 1 ∷ 2 ∷ 0 ∷ 1 ∷ 0 ∷ 0 ∷ 2 ∷ 0 ∷ 0 ∷ []
+anEdge = 0 ∷ 9 ∷ 2 ∷ 2 ∷ 0 ∷ 1 ∷ 0 ∷ 0 ∷ 2 ∷ 0 ∷ 0 ∷ []
 
 abbrev kindThree : List ℕ
 kindThree = 0 ∷ 2 ∷ 1 ∷ 3 ∷ []
 
 two-records : floorOf nineZeros (aNode ++ anEdge)
     ≡ record { stop = Fine; used = 20; records = 2; cells = 1 ∷ 2 ∷ 0 ∷ 0 ∷ 0 ∷ 0 ∷ 0 ∷ 0 ∷ 0 ∷ [] }
-unfolding floorOf fed recordOf saidOf nodeOf nodeBody nodeAt edgeOf labelAt sidesAt readEnds pouredStar completedStar missingLeft any
+unfolding floorOf fed recordOf saidOf nodeOf nodeBody nodeAt edgeOf labelAt sidesAt readEnds pouredStar completedStar missingLeft any formOf
     walkOf startOf filledOf dirsFrom pourNode pourLabel pourLabels
 two-records = refl
 
@@ -36,6 +36,7 @@ two-records = refl
 one-refused : floorOf nineZeros (aNode ++ kindThree ++ anEdge)
     ≡ record { stop = Refused Kind; used = 9; records = 1; cells = 1 ∷ 0 ∷ 0 ∷ 0 ∷ 0 ∷ 0 ∷ 0 ∷ 0 ∷ 0 ∷ [] }
 unfolding floorOf fed recordOf saidOf nodeOf nodeBody nodeAt readEnds pouredStar completedStar missingLeft any walkOf startOf filledOf
+    formOf
     dirsFrom pourNode pourLabel pourLabels
 one-refused = refl
 

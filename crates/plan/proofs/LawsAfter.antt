@@ -1,6 +1,6 @@
 -- Document 01: "bytes after it don't matter". A record that is whole is answered by its own bytes alone, be it accepted or refused;
 -- and an accepted record used 2 + length of them. Assumes nothing.
-use Prim.Native.Nat.{ℕ, zero, suc, _+_, _*_, _≤_}
+use Prim.Native.Nat.{ℕ, _+_, _*_, _≤_}
 use mathlib.Core.Path.{_≡_, refl, sym, ap, _∙_}
 use mathlib.Core.Bool.{not}
 use mathlib.Core.List.{List, _++_}
@@ -11,51 +11,24 @@ use lib.ListN.{length, take, drop, getD, length-append, take-append-drop}
 use lib.Seq.{length-take-le, getD-take}
 use Rattle.de9im.specs.declared.answer.Answer.the-variants.{Used}
 use Rattle.de9im.specs.declared.refusal.Refusal.the-variants.{Short, Version, Length, Ends}
-use Rattle.plan.specs.EndBytes.{dirAt, endAt, readEnds}
-use Rattle.plan.specs.LabelBytes.{sidesAt, labelAt}
 use Rattle.plan.specs.Record.{recordOf}
-use Rattle.plan.specs.Said.{edgeOf, nodeAt, nodeBody, nodeOf, byKind, saidOf}
+use Rattle.plan.specs.Said.{Form, isVersion, formOf, edgeOf, nodeAt, nodeBody, nodeOf, byKind, saidOf}
 use Rattle.frame.specs.Words.{byteAt, promised}
 use Rattle.frame.proofs.LawsFront.{Alike, front-alike, front-promised}
 use Rattle.frame.proofs.LawsRead.{same-check}
+use Rattle.plan.proofs.LawsForm.{Fits, form-fits}
+use Rattle.plan.proofs.LawsMoved.{Moved, label-moved, ends-moved, node-same}
 use Rattle.plan.proofs.LawsSaid.{says, is-whole}
 
 module _ (n : ℕ) (s t : List ℕ) (same : Alike n s t) where
   -- labels, ends and nodes that lie in the part that is alike
-  sides-alike : (at : ℕ) → at + 3 ≤ n → sidesAt s at ≡ sidesAt t at
-  unfolding sidesAt
-  sides-alike at h = rw (same at (omega arith), same (at + 1) (omega arith), same (at + 2) (omega arith))
-
-  label-alike : (at : ℕ) → at + 7 ≤ n → labelAt s at ≡ labelAt t at
-  unfolding labelAt
-  label-alike at h = rw (same at (omega arith), sides-alike (at + 1) (omega arith), sides-alike (at + 4) (omega arith))
-
-  dir-alike : (at : ℕ) → at + 8 ≤ n → dirAt s at ≡ dirAt t at
-  unfolding dirAt
-  dir-alike at h =
-      simp (
-        same at (omega arith),
-        same (at + 1) (omega arith),
-        same (at + 2) (omega arith),
-        same (at + 3) (omega arith),
-        same (at + 4) (omega arith),
-        same (at + 4 + 1) (omega arith),
-        same (at + 4 + 2) (omega arith),
-        same (at + 4 + 3) (omega arith),
-      )
-
-  end-alike : (at : ℕ) → at + 15 ≤ n → endAt s at ≡ endAt t at
-  unfolding endAt
-  end-alike at h = rw (dir-alike at (omega arith), label-alike (at + 8) (omega arith))
-
-  ends-alike : (m at : ℕ) → at + 15 * m ≤ n → readEnds m s at ≡ readEnds m t at
-  unfolding readEnds
-  ends-alike zero at h = refl
-  ends-alike (suc m) at h = rw (end-alike at (omega arith), ends-alike m (at + 15) (omega arith))
+  moved : Moved n s 0 t 0
+  moved i j l h e =
+      let f : j ≡ i = omega arith in
+      rw f (same i (omega arith))
 
   node-read-alike : 8 ≤ n → nodeAt s ≡ nodeAt t
-  unfolding nodeAt
-  node-read-alike h = rw (same 4 (omega arith), same 5 (omega arith), same 6 (omega arith), same 7 (omega arith))
+  node-read-alike h = node-same s t (same 4 (omega arith)) (same 5 (omega arith)) (same 6 (omega arith)) (same 7 (omega arith))
 
   -- whole records: check by check, and what follows a check is asked only where it passes
   module _ (half : promised s ≡ promised t) (whole : 2 + promised s ≤ n) where
@@ -64,25 +37,27 @@ module _ (n : ℕ) (s t : List ℕ) (same : Alike n s t) where
     edge-alike =
         same-check (not (eqb (promised s) 9)) (not (eqb (promised t) 9)) Length _ _ (rw half refl) (λ nine.
         let e : promised s ≡ 9 = eqb-true _ _ (not-false (eqb (promised s) 9) nine) in
-        rw (label-alike 4 (omega arith)) refl)
+        rw (label-moved n s 0 t 0 moved 4 4 (omega arith) (omega arith) refl) refl)
 
-    body-alike : promised s ≡ 7 + 15 * byteAt s 8 → nodeBody s ≡ nodeBody t
+    body-alike : (m at : ℕ) → 8 ≤ at → at + 15 * m ≤ n → nodeBody m at s ≡ nodeBody m at t
     unfolding nodeBody
-    body-alike e =
-        rw (node-read-alike (omega arith), ends-alike (byteAt s 8) 9 (omega arith), same 8 (omega arith)) refl
+    body-alike m at h k = rw (node-read-alike (omega arith), ends-moved n s 0 t 0 moved m at at (omega arith) (omega arith) refl) refl
 
-    node-alike : nodeOf s ≡ nodeOf t
+    node-alike : (f : Form) → Fits f → nodeOf f s ≡ nodeOf f t
     unfolding nodeOf
-    node-alike =
-        same-check (ltb (promised s) 7) (ltb (promised t) 7) Length _ _ (rw half refl) (λ long.
-        let seven : 7 ≤ promised s = ltb-false _ _ long in
-        let eight : byteAt s 8 ≡ byteAt t 8 = same 8 (omega arith) in
-        same-check (ltb 32 (byteAt s 8)) (ltb 32 (byteAt t 8)) Ends _ _ (rw eight refl) (λ few.
-        same-check (not (eqb (promised s) (7 + 15 * byteAt s 8))) (not (eqb (promised t) (7 + 15 * byteAt t 8))) Length _ _
-        (rw (half, eight) refl) (λ right. body-alike (eqb-true _ _ (not-false (eqb (promised s) (7 + 15 * byteAt s 8)) right)))))
+    node-alike f fits =
+        same-check (ltb (promised s) (f .base)) (ltb (promised t) (f .base)) Length _ _ (rw half refl) (λ long.
+        let based : f .base ≤ promised s = ltb-false _ _ long in
+        let seven = fits .least in
+        let count : f .count s ≡ f .count t = fits .counted s t (same 8 (omega arith)) (λ h. same 9 (omega arith)) in
+        same-check (ltb (f .limit) (f .count s)) (ltb (f .limit) (f .count t)) Ends _ _ (rw count refl) (λ few.
+        same-check (not (eqb (promised s) (f .base + 15 * f .count s))) (not (eqb (promised t) (f .base + 15 * f .count t))) Length _ _
+        (rw (half, count) refl) (λ right.
+        let e : promised s ≡ f .base + 15 * f .count s = eqb-true _ _ (not-false (eqb (promised s) (f .base + 15 * f .count s)) right) in
+        rw (← count) (body-alike (f .count s) (2 + f .base) (omega arith) (omega arith)))))
 
-    kind-alike : 2 ≤ promised s → byKind s ≡ byKind t
-    kind-alike h = rw (same 3 (omega arith), node-alike, edge-alike)
+    kind-alike : (f : Form) → Fits f → 2 ≤ promised s → byKind f s ≡ byKind f t
+    kind-alike f fits h = rw (same 3 (omega arith), node-alike f fits, edge-alike)
 
     said-alike : 2 ≤ length s → 2 ≤ length t → 2 + promised s ≤ length s → 2 + promised t ≤ length t → saidOf s ≡ saidOf t
     unfolding saidOf
@@ -93,7 +68,8 @@ module _ (n : ℕ) (s t : List ℕ) (same : Alike n s t) where
         same-check (ltb (promised s) 2) (ltb (promised t) 2) Length _ _ (rw half refl) (λ some.
         let h : 2 ≤ promised s = ltb-false _ _ some in
         let version : byteAt s 2 ≡ byteAt t 2 = same 2 (omega arith) in
-        same-check (not (eqb (byteAt s 2) 1)) (not (eqb (byteAt t 2) 1)) Version _ _ (rw version refl) (λ one. kind-alike h))))
+        same-check (not (isVersion (byteAt s 2))) (not (isVersion (byteAt t 2))) Version _ _ (rw version refl) (λ known.
+        rw (← version) (kind-alike (formOf (byteAt s 2)) (form-fits (byteAt s 2)) h)))))
 
 -- what a whole record says doesn't depend on the bytes after it, and neither does its answer
 pub later-said : (s t : List ℕ) → 2 ≤ length s → 2 + promised s ≤ length s → saidOf (s ++ t) ≡ saidOf s

@@ -1,4 +1,4 @@
--- Laws of reading ends one after the other into an array. Assumes nothing.
+-- Laws of reading ends one after the other. Assumes nothing.
 use Prim.Native.Nat.{ℕ, zero, suc, _+_, _-_, _/_, _%_, _≤_, _<_}
 use mathlib.Core.Path.{_≡_, refl, sym, ap, _∙_}
 use mathlib.Core.Bool.{not}
@@ -6,18 +6,15 @@ use mathlib.Core.List.{List, [], _∷_, _++_, append-nil}
 use native.Mathlib.Omega.{arith}
 use borrow.Author.Tests.{ltb-false}
 use lib.Dec.{eqb, ltb}
-use lib.ListN.{length, take, set, replicate, length-append}
-use lib.Seq.{append-snoc, take-append-seam}
-use Rattle.de9im.specs.declared.answer.Checked.the-variants.{Fine}
+use lib.ListN.{length, length-append}
+use lib.Seq.{append-snoc}
 use Rattle.de9im.specs.declared.refusal.Refusal.{Refusal}
 use Rattle.de9im.specs.declared.refusal.Refusal.the-variants as R
 use Rattle.ends.specs.declared.«edge_end».EdgeEnd.{EdgeEnd}
-use Rattle.ends.specs.Ends.{noEnd}
-use Rattle.ends.proofs.LawsLists.{pad-step}
-use Rattle.plan.specs.declared.«end_bytes».EndsRead.{EndsRead}
-use Rattle.plan.specs.EndBytes.{Ends, endAt, readEnds, endsCall, paddedEnds, endsRead, endsCallOf}
+use Rattle.ends.specs.Count.{mostEnds}
+use Rattle.plan.specs.EndBytes.{Ends, endAt, readEnds, endsCall}
 use Rattle.plan.specs.Inner.Gathering.{AllRead}
-use Rattle.frame.specs.Read.{Read, good, bad, readAs, _>>=_}
+use Rattle.frame.specs.Read.{Read, good, bad, _>>=_}
 use Rattle.frame.proofs.LawsRead.{bad-good, passed}
 
 -- ends read earlier, in front
@@ -87,54 +84,11 @@ read-length zero s at es q =
     rw (← g) refl
 read-length (suc n) s at es q = length-by n (endAt s at) (readEnds n s (at + 15)) es (λ fs. read-length n s (at + 15) fs) q
 
--- into an array: blanks behind the ends
-abbrev pub InArray : List EdgeEnd → List EdgeEnd → Type 0
-InArray ends es = ends ≡ paddedEnds es
-
-pub array-more : (ends : List EdgeEnd) (e : EdgeEnd) (i : ℕ) → i < 32 → (es : List EdgeEnd) → length es ≡ i → InArray ends es
-    → InArray (set ends i e) (es ++ (e ∷ []))
-array-more ends e i h es m k = rw k (pad-step noEnd 32 es e i m h)
-
-pub array-read : (ends : List EdgeEnd) (n : ℕ) (s : List ℕ) (at : ℕ) → AllRead (InArray ends) n s at
-    → record { answer = Fine; ends = ends; count = n } ≡ endsRead (readEnds n s at)
-array-read ends n s at a =
-    let m : length (a .ends) ≡ n = read-length n s at (a .ends) (a .read) in
-    rw (a .read, a .kept) (ap {B = EndsRead} (λ (k : ℕ). record { answer = Fine; ends = paddedEnds (a .ends); count = k }) (sym m))
-
--- what an array of ends read says of the list
-padded-length : (es : List EdgeEnd) → length es ≤ 32 → length (paddedEnds es) ≡ 32
-padded-length es h = length-append es (replicate (32 - length es) noEnd) ∙ omega (arith, replicate-length (32 - length es))
-  where
-    replicate-length : (k : ℕ) → length (replicate k noEnd) ≡ k
-    replicate-length zero = refl
-    replicate-length (suc k) = ap suc (replicate-length k)
-
-list-by : (n : ℕ) (x : Ends) (r : EndsRead) → ((es : List EdgeEnd) → x ≡ good es → (length es ≡ n) × (n ≤ 32)) → r ≡ endsRead x
-    → (x ≡ readAs (r .answer) (take n (r .ends))) × (length (r .ends) ≡ 32)
-list-by n (bad q) r l e = (rw e refl, rw e refl)
-list-by n (good es) r l e =
-    let m = l es refl .0 in
-    let h = l es refl .1 in (
-      rw (e, ← m, take-append-seam es (replicate (32 - length es) noEnd)) refl,
-      rw e (padded-length es (omega arith)),
-    )
-
-pub ends-list : (n : ℕ) (s : List ℕ) (at : ℕ) (r : EndsRead) → n ≤ 32 → r ≡ endsRead (readEnds n s at)
-    → (readEnds n s at ≡ readAs (r .answer) (take n (r .ends))) × (length (r .ends) ≡ 32)
-ends-list n s at r h e = list-by n (readEnds n s at) r (λ es q. (read-length n s at es q, h)) e
-
--- bytes that are all ends: at most 32, read one after the other
+-- bytes that are all ends: not too many, read one after the other
 pub call-read : (s : List ℕ) (es : List EdgeEnd) → endsCall s ≡ good es
-    → (length s / 15 ≤ 32) × (readEnds (length s / 15) s 0 ≡ good es)
+    → (length s / 15 ≤ mostEnds) × (readEnds (length s / 15) s 0 ≡ good es)
 unfolding endsCall
 call-read s es e =
     let p = passed (not (eqb (length s % 15) 0)) R.Length _ es e .1 in
-    let q = passed (ltb 32 (length s / 15)) R.Ends _ es p in
+    let q = passed (ltb mostEnds (length s / 15)) R.Ends _ es p in
     (ltb-false _ _ (q .0), q .1)
-
-pub call-list : (s : List ℕ) (r : EndsRead) → r ≡ endsCallOf s
-    → (endsCall s ≡ readAs (r .answer) (take (length s / 15) (r .ends))) × (length (r .ends) ≡ 32)
-call-list s r e =
-    list-by (length s / 15) (endsCall s) r (λ es q.
-    let c = call-read s es q in
-    (read-length (length s / 15) s 0 es (c .1), c .0)) e

@@ -47,7 +47,7 @@ module _ (x : Ends) (c : Checked) (k : ℕ) (out : List ℕ) where
       by (bad r) q h = absurd h
 
 -- ends in columns are what ordering and bundling ask for
-module _ (n : ℕ) (s : List ℕ) (at : ℕ) (xs ys : List ℤ) (marks words : List ℕ) (few : n ≤ 32) (long : length words ≡ 32)
+module _ (n : ℕ) (s : List ℕ) (at : ℕ) (xs ys : List ℤ) (marks words : List ℕ) (few : n ≤ 1024) (long : n ≤ length words)
     (a : AllRead (Kept xs ys marks words) n s at) where
   size : length (a .ends) ≡ n
   size = read-length n s at (a .ends) (a .read)
@@ -55,7 +55,7 @@ module _ (n : ℕ) (s : List ℕ) (at : ℕ) (xs ys : List ℤ) (marks words : L
   cut : length (take n words) ≡ n
   cut = length-take-le n words (omega arith)
 
-  pub read-lent : (spare out : List ℕ) → length spare ≡ n → 32 ≤ length out → Lent xs ys marks (take n words) spare out
+  pub read-lent : (spare out : List ℕ) → length spare ≡ n → n ≤ length out → Lent xs ys marks (take n words) spare out
   read-lent spare out e h =
       columns-lent (a .ends) xs ys marks (take n words) (columns-cut (a .ends) n size (a .kept .columns)) (size ∙
       sym cut) (omega (arith, size))
@@ -65,5 +65,5 @@ module _ (n : ℕ) (s : List ℕ) (at : ℕ) (xs ys : List ℤ) (marks words : L
   read-bundles out k b =
       b .bundles (a .ends) (columns-cut (a .ends) n size (a .kept .columns)) (size ∙ sym cut) (a .kept .good-ends)
 
-  pub read-few : (out : List ℕ) (k : ℕ) → Bundled xs ys marks (take n words) out k → k ≤ 32
+  pub read-few : (out : List ℕ) (k : ℕ) → Bundled xs ys marks (take n words) out k → k ≤ n
   read-few out k b = omega (arith, b .few, cut)

@@ -18,32 +18,35 @@ use Rattle.frame.specs.Words.{byteAt, promised}
 use Rattle.frame.proofs.LawsRead.{same-check}
 use Rattle.plan.specs.Floor.{stoppedAs, floorOf}
 use Rattle.plan.specs.Record.{pouredBy, recordOf}
-use Rattle.plan.specs.Said.{Said, edgeOf, nodeOf, byKind, saidOf}
+use Rattle.plan.specs.Said.{Form, Said, isVersion, formOf, edgeOf, nodeOf, byKind, saidOf}
 use Rattle.plan.proofs.LawsFloor.{floor-refused}
+use Rattle.plan.proofs.LawsForm.{Fits, form-fits}
 use Rattle.plan.proofs.LawsSmall.{said-few}
 
 -- whole, and longer than any accepted one
 pub record Long (s : List ℕ) : Type 0 where
-  pub long : 487 < promised s
+  pub long : 9008 < promised s
   pub whole : 2 + promised s ≤ length s
 
 -- no count makes such a length right
-no-count : (n count : ℕ) → 487 < n → ltb 32 count ≡ false → n ≡ 7 + 15 * count → ⊥
-no-count n count long few e = omega (arith, ltb-false 32 count few)
+no-count : (f : Form) → Fits f → (n count : ℕ) → 9008 < n → ltb (f .limit) count ≡ false → n ≡ f .base + 15 * count → ⊥
+no-count f fits n count long few e = omega (arith, fits .most, ltb-false (f .limit) count few)
 
 module _ (s t : List ℕ) (a : Long s) (b : Long t) (version : byteAt s 2 ≡ byteAt t 2) (kind : byteAt s 3 ≡ byteAt t 3)
-    (count : byteAt s 8 ≡ byteAt t 8) where
-  node-long : nodeOf s ≡ nodeOf t
+    (high : byteAt s 8 ≡ byteAt t 8) (low : byteAt s 9 ≡ byteAt t 9) where
+  node-long : (f : Form) → Fits f → nodeOf f s ≡ nodeOf f t
   unfolding nodeOf
-  node-long =
-      same-check (ltb (promised s) 7) (ltb (promised t) 7) Length _ _
-      (le-ltb (promised s) 7 (omega (arith, a .long)) ∙ sym (le-ltb (promised t) 7 (omega (arith, b .long)))) (λ seven.
-      same-check (ltb 32 (byteAt s 8)) (ltb 32 (byteAt t 8)) Ends _ _ (rw count refl) (λ few.
-      let x = no-count (promised s) (byteAt s 8) (a .long) few in
-      let y = no-count (promised t) (byteAt t 8) (b .long) (rw (← count) few) in
-      same-check (not (eqb (promised s) (7 + 15 * byteAt s 8))) (not (eqb (promised t) (7 + 15 * byteAt t 8))) Length _ _
-      (ap not (ne-eqb (promised s) (7 + 15 * byteAt s 8) x) ∙ sym (ap not (ne-eqb (promised t) (7 + 15 * byteAt t 8) y)))
-      (λ right. absurd (x (eqb-true _ _ (not-false (eqb (promised s) (7 + 15 * byteAt s 8)) right))))))
+  node-long f fits =
+      let count : f .count s ≡ f .count t = fits .counted s t high (λ h. low) in
+      let most = fits .most in
+      same-check (ltb (promised s) (f .base)) (ltb (promised t) (f .base)) Length _ _
+      (le-ltb (promised s) (f .base) (omega (arith, a .long)) ∙ sym (le-ltb (promised t) (f .base) (omega (arith, b .long)))) (λ based.
+      same-check (ltb (f .limit) (f .count s)) (ltb (f .limit) (f .count t)) Ends _ _ (rw count refl) (λ few.
+      let x = no-count f fits (promised s) (f .count s) (a .long) few in
+      let y = no-count f fits (promised t) (f .count t) (b .long) (rw (← count) few) in
+      same-check (not (eqb (promised s) (f .base + 15 * f .count s))) (not (eqb (promised t) (f .base + 15 * f .count t))) Length _ _
+      (ap not (ne-eqb (promised s) (f .base + 15 * f .count s) x) ∙ sym (ap not (ne-eqb (promised t) (f .base + 15 * f .count t) y)))
+      (λ right. absurd (x (eqb-true _ _ (not-false (eqb (promised s) (f .base + 15 * f .count s)) right))))))
 
   edge-long : edgeOf s ≡ edgeOf t
   unfolding edgeOf
@@ -63,8 +66,8 @@ module _ (s t : List ℕ) (a : Long s) (b : Long t) (version : byteAt s 2 ≡ by
       (le-ltb _ _ (a .whole) ∙ sym (le-ltb _ _ (b .whole))) (λ all.
       same-check (ltb (promised s) 2) (ltb (promised t) 2) Length _ _
       (le-ltb (promised s) 2 (omega (arith, a .long)) ∙ sym (le-ltb (promised t) 2 (omega (arith, b .long)))) (λ some.
-      same-check (not (eqb (byteAt s 2) 1)) (not (eqb (byteAt t 2) 1)) Version _ _ (rw version refl) (λ one.
-      rw (kind, node-long, edge-long) refl))))
+      same-check (not (isVersion (byteAt s 2))) (not (isVersion (byteAt t 2))) Version _ _ (rw version refl) (λ known.
+      rw (kind, version, node-long (formOf (byteAt t 2)) (form-fits (byteAt t 2)), edge-long) refl))))
 
 -- so both are refused alike
 pub record RefusedAlike (ns s t : List ℕ) : Type 0 where
@@ -78,8 +81,8 @@ refused-by ns s r a e =
     floor-refused ns s r (omega (arith, a .whole)) (ap (λ (x : Read Said). pouredBy ns (2 + promised s) x .answer) e)
 
 pub long-alike : (ns s t : List ℕ) → Long s → Long t → byteAt s 2 ≡ byteAt t 2 → byteAt s 3 ≡ byteAt t 3 → byteAt s 8 ≡ byteAt t 8
-    → RefusedAlike ns s t
-long-alike ns s t a b version kind count = by (saidOf s) refl
+    → byteAt s 9 ≡ byteAt t 9 → RefusedAlike ns s t
+long-alike ns s t a b version kind high low = by (saidOf s) refl
   where
     by : (x : Read Said) → saidOf s ≡ x → RefusedAlike ns s t
     by (good x) e = absurd (let h = said-few s x e in omega (arith, a .long))
@@ -87,5 +90,5 @@ long-alike ns s t a b version kind count = by (saidOf s) refl
         record {
           refusal = r;
           one = refused-by ns s r a e;
-          other = refused-by ns t r b (sym (said-long s t a b version kind count) ∙ e);
+          other = refused-by ns t r b (sym (said-long s t a b version kind high low) ∙ e);
         }

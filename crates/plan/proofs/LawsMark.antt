@@ -154,6 +154,7 @@ module _ (s : List ℕ) (at : ℕ) where
   end-mark = mark-word (endRead s at)
 
   pub record Unfaulted : Type 0 where
+    pub dir-fine : badDir (dirAt s at) ≡ false
     pub dir-good : zeroDir (dirAt s at) ≡ false
     pub label-fine : labelFault s (at + 8) ≡ Fine
     pub end-good : endAt s at ≡ good (endRead s at)
@@ -172,7 +173,7 @@ module _ (s : List ℕ) (at : ℕ) where
       go : (t : Bool) → badDir (dirAt s at) ≡ t → Unfaulted
       go true e = fine-refused {r = Direction} (sym f ∙ rw e refl)
       go false e =
-          record { dir-good = no-zero e; label-fine = sym (rw e refl) ∙ f; end-good = end-reading s at ∙ simp f }
+          record { dir-fine = e; dir-good = no-zero e; label-fine = sym (rw e refl) ∙ f; end-good = end-reading s at ∙ simp f }
 
 -- one more at the end of a list
 pub all-snoc : {X : Type 0} {Q : X → Type 0} {xs : List X} {x : X} → All Q xs → Q x → All Q (xs ++ (x ∷ []))

@@ -45,7 +45,7 @@ use Rattle.plan.specs.Numbers.{
 use Rattle.frame.specs.Read.{Read, good, bad, _>>=_}
 use Rattle.plan.specs.Record.{pouredBy, recordOf}
 use Rattle.frame.specs.Rules.{Rule, _gives_, firstNo}
-use Rattle.plan.specs.Said.{Said, edge, node, edgeOf, nodeAt, withEnds, nodeBody, nodeOf, saidOf}
+use Rattle.plan.specs.Said.{Form, Said, edge, node, isVersion, formOf, edgeOf, nodeAt, withEnds, nodeBody, nodeOf, saidOf}
 use Rattle.frame.specs.Words.{byteAt, promised}
 use Rattle.plan.proofs.LawsReading.{label-reading, node-reading}
 use Rattle.de9im.proofs.LawsRefused.{some-number}
@@ -177,15 +177,16 @@ body-by (bad r) y = refl
 body-by (good n) (bad r) = refl
 body-by (good n) (good es) = left-by (missingLeft (joinedOf es)) (node n es)
 
-nodes-no : (s : List ℕ) → noOr (nodeOf s) 0 ≡ firstNo (nodeRules s)
+nodes-no : (f : Form) (s : List ℕ) → noOr (nodeOf f s) 0 ≡ firstNo (nodeRules f s)
 unfolding nodeOf nodeBody firstNo
-nodes-no s =
-    let es = readEnds (byteAt s 8) s 9 in
-    check-no (ltb (promised s) 7) Length _ 0 _ (λ a.
-    check-no (ltb 32 (byteAt s 8)) Ends _ 0 _ (λ b.
-    check-no (not (eqb (promised s) (7 + 15 * byteAt s 8))) Length _ 0 _ (λ c.
+nodes-no f s =
+    let n = f .count s in
+    let es = readEnds n s (2 + f .base) in
+    check-no (ltb (promised s) (f .base)) Length _ 0 _ (λ a.
+    check-no (ltb (f .limit) n) Ends _ 0 _ (λ b.
+    check-no (not (eqb (promised s) (f .base + 15 * n))) Length _ 0 _ (λ c.
     body-by (nodeAt s) es ∙ node-no s (noOr es (cond (lacksLeft es) 9 0)) ∙
-    ap (λ (k : ℕ). cond (badPositions s) 6 k) (sym (ends-no (byteAt s 8) s 9 ((lacksLeft es gives 9) ∷ []))))))
+    ap (λ (k : ℕ). cond (badPositions s) 6 k) (sym (ends-no n s (2 + f .base) ((lacksLeft es gives 9) ∷ []))))))
 
 edges-no : (s : List ℕ) → noOr (edgeOf s) 0 ≡ firstNo (edgeRules s)
 unfolding edgeOf firstNo
@@ -204,8 +205,10 @@ unfolding saidOf recordNo firstNo
 said-no s =
     two-checks (ltb (length s) 2) (ltb (length s) (2 + promised s)) Short _ 0 _ (λ a b.
     check-no (ltb (promised s) 2) Length _ 0 _ (λ c.
-    check-no (not (eqb (byteAt s 2) 1)) Version _ 0 _ (λ d.
-    kind-by (eqb (byteAt s 3) 1) (eqb (byteAt s 3) 2) (nodeOf s) (edgeOf s) (nodeRules s) (edgeRules s) (nodes-no s) (edges-no s))))
+    check-no (not (isVersion (byteAt s 2))) Version _ 0 _ (λ d.
+    let f = formOf (byteAt s 2) in
+    kind-by (eqb (byteAt s 3) 1) (eqb (byteAt s 3) 2) (nodeOf f s) (edgeOf s) (nodeRules f s) (edgeRules s) (nodes-no f s)
+    (edges-no s))))
 
 -- the answer's number, and the bytes used
 number-by : (ns : List ℕ) (u : ℕ) (x : Read Said) → answerNo (pouredBy ns u x .answer) ≡ noOr x 0

@@ -12,6 +12,7 @@ use Rattle.de9im.specs.declared.answer.BytesAnswer.{BytesAnswer}
 use Rattle.de9im.specs.declared.refusal.Refusal.{Refusal}
 use Rattle.de9im.specs.Answers.{answerNo}
 use Rattle.plan.specs.Numbers.{endsRules, nodeRules, edgeRules, recordNo}
+use Rattle.plan.specs.Said.{Form, isVersion, formOf}
 use Rattle.plan.proofs.LawsNumbers.{record-number}
 use Rattle.de9im.specs.declared.refusal.Refusal.the-variants.{Short}
 use Rattle.de9im.proofs.LawsBool.{told, clash, and-left, and-right, neither}
@@ -47,16 +48,16 @@ unfolding endsRules
 ends-others zero s at rules h = h
 ends-others (suc n) s at rules h = ends-others n s (at + 15) rules h
 
-kind-others : (s : List ℕ) (t : Bool) → others (cond t (nodeRules s) (edgeRules s)) ≡ true
-kind-others s true = ends-others (byteAt s 8) s 9 _ refl
-kind-others s false = refl
+kind-others : (f : Form) (s : List ℕ) (t : Bool) → others (cond t (nodeRules f s) (edgeRules s)) ≡ true
+kind-others f s true = ends-others (f .count s) s (2 + f .base) _ refl
+kind-others f s false = refl
 
 abbrev ruled : List ℕ → List Rule
 ruled s =
     (ltb (promised s) 2 gives 4) ∷
-    (not (eqb (byteAt s 2) 1) gives 2) ∷
+    (not (isVersion (byteAt s 2)) gives 2) ∷
     (not (eqb (byteAt s 3) 1 || eqb (byteAt s 3) 2) gives 3) ∷
-    cond (eqb (byteAt s 3) 1) (nodeRules s) (edgeRules s)
+    cond (eqb (byteAt s 3) 1) (nodeRules (formOf (byteAt s 2)) s) (edgeRules s)
 
 -- so refusal 1 is a part of a record
 pub short-only : (ns s : List ℕ) → recordOf ns s .answer ≡ Refused Short → short s ≡ true
@@ -65,7 +66,7 @@ short-only ns s e = by (short s) (sym (record-number ns s) ∙ ap answerNo e)
   where
     by : (t : Bool) → firstNo ((t gives 1) ∷ ruled s) ≡ 1 → t ≡ true
     by true q = refl
-    by false q = others-no (ruled s) (kind-others s (eqb (byteAt s 3) 1)) q
+    by false q = others-no (ruled s) (kind-others (formOf (byteAt s 2)) s (eqb (byteAt s 3) 1)) q
 
 -- and another refusal is one of a whole record
 pub whole-other : (ns s : List ℕ) (r : Refusal) → recordOf ns s .answer ≡ Refused r → (r ≡ Short → ⊥) → short s ≡ false

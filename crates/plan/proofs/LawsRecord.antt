@@ -1,11 +1,13 @@
 -- Laws of records: what was read is sound for the star, and what the star answers. Assumes nothing.
-use Prim.Native.Nat.{ℕ, zero, suc, _+_, _≤_}
+use Prim.Native.Nat.{ℕ, zero, suc, _+_, _/_}
 use mathlib.Core.Path.{_≡_, refl, sym, ap, _∙_}
 use mathlib.Core.Bool.{Bool, true, false, cond}
 use mathlib.Core.List.{List, [], _∷_}
+use native.Mathlib.Omega.{arith}
 use borrow.Author.Tests.{le-ltb}
 use lib.Dec.{ltb}
-use lib.ListN.{length, take}
+use lib.ListN.{length}
+use lib.Seq.{take-length}
 use Rattle.de9im.specs.declared.answer.Answer.the-variants.{Used}
 use Rattle.de9im.specs.declared.answer.BytesAnswer.{BytesAnswer}
 use Rattle.de9im.specs.declared.answer.CellsAnswer.{CellsAnswer}
@@ -20,15 +22,16 @@ use Rattle.star.specs.declared.pouring.Node.{Node}
 use Rattle.ends.specs.declared.«topology_position».Sides.{Sides}
 use Rattle.star.specs.Calls.{completedStar, pouredStar}
 use Rattle.star.specs.Completing.{missingLeft}
-use Rattle.ends.specs.Ends.{badDir, lineWithSide, faultOf, firstFault, checkedOf, Sound}
+use Rattle.ends.specs.Count.{mostEnds}
+use Rattle.ends.specs.Ends.{badDir, lineWithSide, faultOf, firstFault, checkedOf}
 use Rattle.ends.specs.Star.{joinedOf}
-use Rattle.ends.proofs.LawsEnds.{checked-sound}
-use Rattle.plan.specs.EndBytes.{Ends, dirAt, endAt, readEnds}
+use Rattle.plan.specs.EndBytes.{Ends, dirAt, endAt, readEnds, endsCall}
 use Rattle.plan.specs.LabelBytes.{labelOf, sidesAt, labelAt}
 use Rattle.frame.specs.Read.{Read, good, bad, _>>=_, noneUsed}
 use Rattle.plan.specs.Record.{pouredBy}
 use Rattle.plan.specs.Said.{withEnds, nodeBody}
 use Rattle.plan.specs.Inner.Reading.{nodeFault, nodeRead}
+use Rattle.plan.proofs.LawsEnds.{read-length, call-read}
 use Rattle.plan.proofs.LawsReading.{node-reading}
 use Rattle.frame.specs.Words.{byteAt}
 use Rattle.frame.proofs.LawsRead.{bad-good}
@@ -85,14 +88,13 @@ ends-fine zero s at es q =
 ends-fine (suc n) s at es q =
     ends-by (endAt s at) (readEnds n s (at + 15)) es (λ e. end-fine s at e) (λ fs p. ends-fine n s (at + 15) fs p) q
 
--- ends that were read pass the check that a public star call makes
-module _ (n : ℕ) (s : List ℕ) (at : ℕ) (ends : List EdgeEnd) (h : n ≤ 32) (q : readEnds n s at ≡ good (take n ends)) where
-  pub read-fine : checkedOf ends n ≡ Fine
-  unfolding checkedOf
-  read-fine = rw (le-ltb 32 n h) (ends-fine n s at (take n ends) q)
-
-  pub read-sound : length ends ≡ 32 → Sound ends n
-  read-sound l = checked-sound ends n l read-fine
+-- bytes that were read as ends pass the check that a public star call makes
+pub call-fine : (s : List ℕ) (es : List EdgeEnd) → endsCall s ≡ good es → checkedOf es (length es) ≡ Fine
+unfolding checkedOf
+call-fine s es e =
+    let c = call-read s es e in
+    let m : length es ≡ length s / 15 = read-length (length s / 15) s 0 es (c .1) in
+    rw (le-ltb mostEnds (length es) (omega (arith, c .0)), take-length es) (ends-fine (length s / 15) s 0 es (c .1))
 
 -- what a poured star answers: refusal 9, or the raised numbers
 module _ (ns : List ℕ) (used : ℕ) (n : Node) (es : List EdgeEnd) (d : CellsAnswer) (e : d ≡ pouredStar ns n es) where
@@ -119,7 +121,7 @@ module _ (ns : List ℕ) (used : ℕ) (n : Node) (es : List EdgeEnd) (d : CellsA
       go false m = fine-refused (sym (told false m) ∙ q)
 
 -- a node whose positions and ends were read is poured as they say
-pub node-poured : (ns : List ℕ) (used : ℕ) (s : List ℕ) (n : ℕ) (es : List EdgeEnd) (x : BytesAnswer) → nodeFault s ≡ Fine → n ≡ byteAt s 8
-    → readEnds n s 9 ≡ good es → x ≡ pouredBy ns used (withEnds (nodeRead s) es) → x ≡ pouredBy ns used (nodeBody s)
+pub node-poured : (ns : List ℕ) (used : ℕ) (s : List ℕ) (n at : ℕ) (es : List EdgeEnd) (x : BytesAnswer) → nodeFault s ≡ Fine
+    → readEnds n s at ≡ good es → x ≡ pouredBy ns used (withEnds (nodeRead s) es) → x ≡ pouredBy ns used (nodeBody n at s)
 unfolding nodeBody
-node-poured ns used s n es x f e r q = q ∙ rw (node-reading s, f, ← e, r) refl
+node-poured ns used s n at es x f r q = q ∙ rw (node-reading s, f, r) refl

@@ -4,7 +4,7 @@ use Prim.Native.Nat.{ℕ, _+_, _*_, _≤_}
 use mathlib.Core.Path.{_≡_, refl, ap}
 use mathlib.Core.Bool.{Bool, true, false, cond, not}
 use mathlib.Core.List.{List}
-use borrow.Author.Tests.{ltb-false}
+use borrow.Author.Tests.{ltb-false, not-false}
 use lib.Dec.{eqb, ltb}
 use lib.ListN.{length}
 use Rattle.de9im.specs.declared.answer.Answer.the-variants.{Used, Refused}
@@ -25,7 +25,7 @@ use Rattle.plan.specs.EndBytes.{Ends as ReadEnds}
 use Rattle.plan.specs.LabelBytes.{labelAt}
 use Rattle.frame.specs.Read.{Read, good, bad, _>>=_}
 use Rattle.plan.specs.Record.{pourSaid, pouredBy, recordOf}
-use Rattle.plan.specs.Said.{Said, edge, node, edgeOf, nodeAt, withEnds, nodeBody, nodeOf, byKind, saidOf}
+use Rattle.plan.specs.Said.{Form, Said, edge, node, isVersion, formOf, edgeOf, nodeAt, withEnds, nodeBody, nodeOf, byKind, saidOf}
 use Rattle.frame.specs.Words.{byteAt, promised}
 use Rattle.frame.proofs.LawsRead.{bad-good, passed}
 
@@ -84,7 +84,8 @@ says ns s u ms e = says-by ns s (saidOf s) u ms refl e
 pub record Whole (s : List ℕ) (said : Said) : Type 0 where
   pub two : 2 ≤ length s
   pub whole : 2 + promised s ≤ length s
-  pub kind : byKind s ≡ good said
+  pub version : isVersion (byteAt s 2) ≡ true
+  pub kind : byKind (formOf (byteAt s 2)) s ≡ good said
 
 pub is-whole : (s : List ℕ) (said : Said) → saidOf s ≡ good said → Whole s said
 unfolding saidOf
@@ -92,8 +93,13 @@ is-whole s said e =
     let a = passed (ltb (length s) 2) Short _ said e in
     let b = passed (ltb (length s) (2 + promised s)) Short _ said (a .1) in
     let c = passed (ltb (promised s) 2) Length _ said (b .1) in
-    let d = passed (not (eqb (byteAt s 2) 1)) Version _ said (c .1) in
-    record { two = ltb-false (length s) 2 (a .0); whole = ltb-false (length s) (2 + promised s) (b .0); kind = d .1 }
+    let d = passed (not (isVersion (byteAt s 2))) Version _ said (c .1) in
+    record {
+      two = ltb-false (length s) 2 (a .0);
+      whole = ltb-false (length s) (2 + promised s) (b .0);
+      version = not-false (isVersion (byteAt s 2)) (d .0);
+      kind = d .1;
+    }
 
 -- a node that is said lacks no left
 body-by : (x : Read Node) (y : ReadEnds) (n : Node) (es : List EdgeEnd) → (x >>= λ m. y >>= λ fs. withEnds m fs) ≡ good (node n es)
@@ -115,24 +121,24 @@ edge-by true x n es e = bad-good e
 edge-by false (bad r) n es e = bad-good e
 edge-by false (good l) n es e = impossible (cc)
 
-node-lefts : (s : List ℕ) (n : Node) (es : List EdgeEnd) → nodeOf s ≡ good (node n es) → missingLeft (joinedOf es) ≡ false
+node-lefts : (f : Form) (s : List ℕ) (n : Node) (es : List EdgeEnd) → nodeOf f s ≡ good (node n es) → missingLeft (joinedOf es) ≡ false
 unfolding nodeOf nodeBody
-node-lefts s n es e =
-    let a = passed (ltb (promised s) 7) Length _ (node n es) e in
-    let b = passed (ltb 32 (byteAt s 8)) Ends _ (node n es) (a .1) in
-    let c = passed (not (eqb (promised s) (7 + 15 * byteAt s 8))) Length _ (node n es) (b .1) in
-    body-by (nodeAt s) (readEnds (byteAt s 8) s 9) n es (c .1)
+node-lefts f s n es e =
+    let a = passed (ltb (promised s) (f .base)) Length _ (node n es) e in
+    let b = passed (ltb (f .limit) (f .count s)) Ends _ (node n es) (a .1) in
+    let c = passed (not (eqb (promised s) (f .base + 15 * f .count s))) Length _ (node n es) (b .1) in
+    body-by (nodeAt s) (readEnds (f .count s) s (2 + f .base)) n es (c .1)
 
-kind-lefts : (s : List ℕ) (t v : Bool) (n : Node) (es : List EdgeEnd)
-    → cond t (nodeOf s) (cond v (edgeOf s) (bad Kind)) ≡ good (node n es) → missingLeft (joinedOf es) ≡ false
+kind-lefts : (f : Form) (s : List ℕ) (t v : Bool) (n : Node) (es : List EdgeEnd)
+    → cond t (nodeOf f s) (cond v (edgeOf s) (bad Kind)) ≡ good (node n es) → missingLeft (joinedOf es) ≡ false
 unfolding edgeOf
-kind-lefts s true v n es e = node-lefts s n es e
-kind-lefts s false true n es e = edge-by (not (eqb (promised s) 9)) (labelAt s 4) n es e
-kind-lefts s false false n es e = bad-good e
+kind-lefts f s true v n es e = node-lefts f s n es e
+kind-lefts f s false true n es e = edge-by (not (eqb (promised s) 9)) (labelAt s 4) n es e
+kind-lefts f s false false n es e = bad-good e
 
 pub has-lefts : (s : List ℕ) (n : Node) (es : List EdgeEnd) → saidOf s ≡ good (node n es) → missingLeft (joinedOf es) ≡ false
 has-lefts s n es e =
-    kind-lefts s (eqb (byteAt s 3) 1) (eqb (byteAt s 3) 2) n es (is-whole s (node n es) e .kind)
+    kind-lefts (formOf (byteAt s 2)) s (eqb (byteAt s 3) 1) (eqb (byteAt s 3) 2) n es (is-whole s (node n es) e .kind)
 
 -- so its star is poured
 pub poured-node : (ns : List ℕ) (n : Node) (es : List EdgeEnd) → missingLeft (joinedOf es) ≡ false

@@ -1,4 +1,4 @@
--- What a record answers is small, and no word cuts it: an accepted record used at most 489 bytes, no refusal of a record or of ends has
+-- What a record answers is small, and no word cuts it: an accepted record used at most 9,010 bytes, no refusal of a record or of ends has
 -- a place, and a refusal hands the given numbers back. Assumes nothing.
 use Prim.Native.Nat.{ℕ, zero, suc, _+_, _*_, _/_, _%_, _≤_}
 use mathlib.Core.Path.{_≡_, refl}
@@ -20,6 +20,7 @@ use Rattle.de9im.specs.Answers.{answerPlace, usedOf}
 use Rattle.de9im.specs.Position.{codedOf}
 use Rattle.de9im.specs.Refused.{placeOf}
 use Rattle.star.specs.Completing.{missingLeft}
+use Rattle.ends.specs.Count.{mostEnds}
 use Rattle.ends.specs.Ends.{badDir, lineWithSide}
 use Rattle.ends.specs.Label.{isNone}
 use Rattle.ends.specs.Star.{joinedOf}
@@ -27,9 +28,10 @@ use Rattle.plan.specs.EndBytes.{dirAt, endAt, readEnds, endsCall}
 use Rattle.plan.specs.LabelBytes.{codeRead, labelOf, sidesAt, labelAt}
 use Rattle.frame.specs.Read.{Read, good, bad, _>>=_}
 use Rattle.plan.specs.Record.{pouredBy, recordOf}
-use Rattle.plan.specs.Said.{Said, edgeOf, nodeAt, nodeBody, nodeOf, saidOf}
+use Rattle.plan.specs.Said.{Form, Said, isVersion, formOf, edgeOf, nodeAt, nodeBody, nodeOf, saidOf}
 use Rattle.frame.specs.Words.{byteAt, promised}
 use Rattle.frame.proofs.LawsRead.{bad-good, passed}
+use Rattle.plan.proofs.LawsForm.{Fits, form-fits}
 use Rattle.plan.proofs.LawsSaid.{hands-back, is-whole}
 
 -- the place of what was read, if it was refused
@@ -90,7 +92,7 @@ module _ (s : List ℕ) where
   unfolding endsCall
   call-nowhere =
       check-nowhere (not (eqb (length s % 15) 0)) R.Length _ refl
-      (check-nowhere (ltb 32 (length s / 15)) R.Ends _ refl (ends-nowhere (length s / 15) 0))
+      (check-nowhere (ltb mostEnds (length s / 15)) R.Ends _ refl (ends-nowhere (length s / 15) 0))
 
   node-nowhere : readPlace (nodeAt s) ≡ Nowhere
   unfolding nodeAt
@@ -102,22 +104,22 @@ module _ (s : List ℕ) where
       check-nowhere (isNone a || isNone b) R.PositionCode _ refl refl))))
 
   -- records
-  body-nowhere : readPlace (nodeBody s) ≡ Nowhere
+  body-nowhere : (n at : ℕ) → readPlace (nodeBody n at s) ≡ Nowhere
   unfolding nodeBody
-  body-nowhere =
-      then-nowhere (nodeAt s) _ node-nowhere (λ n.
-      then-nowhere (readEnds (byteAt s 8) s 9) _ (ends-nowhere (byteAt s 8) 9) (λ es.
+  body-nowhere n at =
+      then-nowhere (nodeAt s) _ node-nowhere (λ p.
+      then-nowhere (readEnds n s at) _ (ends-nowhere n at) (λ es.
       check-nowhere (missingLeft (joinedOf es)) R.MissingLeft _ refl refl))
 
-  kind-nowhere : (t u : Bool) → readPlace (cond t (nodeOf s) (cond u (edgeOf s) (bad R.Kind))) ≡ Nowhere
+  kind-nowhere : (f : Form) (t u : Bool) → readPlace (cond t (nodeOf f s) (cond u (edgeOf s) (bad R.Kind))) ≡ Nowhere
   unfolding nodeOf edgeOf
-  kind-nowhere true u =
-      check-nowhere (ltb (promised s) 7) R.Length _ refl
-      (check-nowhere (ltb 32 (byteAt s 8)) R.Ends _ refl
-      (check-nowhere (not (eqb (promised s) (7 + 15 * byteAt s 8))) R.Length _ refl body-nowhere))
-  kind-nowhere false true =
+  kind-nowhere f true u =
+      check-nowhere (ltb (promised s) (f .base)) R.Length _ refl
+      (check-nowhere (ltb (f .limit) (f .count s)) R.Ends _ refl
+      (check-nowhere (not (eqb (promised s) (f .base + 15 * f .count s))) R.Length _ refl (body-nowhere (f .count s) (2 + f .base))))
+  kind-nowhere f false true =
       check-nowhere (not (eqb (promised s) 9)) R.Length _ refl (then-nowhere (labelAt s 4) _ (label-nowhere 4) (λ l. refl))
-  kind-nowhere false false = refl
+  kind-nowhere f false false = refl
 
   said-nowhere : readPlace (saidOf s) ≡ Nowhere
   unfolding saidOf
@@ -125,31 +127,39 @@ module _ (s : List ℕ) where
       check-nowhere (ltb (length s) 2) R.Short _ refl
       (check-nowhere (ltb (length s) (2 + promised s)) R.Short _ refl
       (check-nowhere (ltb (promised s) 2) R.Length _ refl
-      (check-nowhere (not (eqb (byteAt s 2) 1)) R.Version _ refl (kind-nowhere (eqb (byteAt s 3) 1) (eqb (byteAt s 3) 2)))))
+      (check-nowhere (not (isVersion (byteAt s 2))) R.Version _ refl
+      (kind-nowhere (formOf (byteAt s 2)) (eqb (byteAt s 3) 1) (eqb (byteAt s 3) 2)))))
 
--- what is said takes at most 487 bytes behind the length field
-kind-few : (s : List ℕ) (t u : Bool) (x : Said) → cond t (nodeOf s) (cond u (edgeOf s) (bad R.Kind)) ≡ good x → promised s ≤ 487
+-- what is said takes at most 9,008 bytes behind the length field
+kind-few : (f : Form) → Fits f → (s : List ℕ) (t u : Bool) (x : Said) → cond t (nodeOf f s) (cond u (edgeOf s) (bad R.Kind)) ≡ good x
+    → promised s ≤ 9008
 unfolding nodeOf edgeOf
-kind-few s true u x e =
-    let a = passed (ltb (promised s) 7) R.Length _ x e in
-    let b = passed (ltb 32 (byteAt s 8)) R.Ends _ x (a .1) in
-    let c = passed (not (eqb (promised s) (7 + 15 * byteAt s 8))) R.Length _ x (b .1) in
-    omega (arith, ltb-false 32 (byteAt s 8) (b .0), eqb-true (promised s) (7 + 15 * byteAt s 8) (not-false _ (c .0)))
-kind-few s false true x e =
+kind-few f fits s true u x e =
+    let a = passed (ltb (promised s) (f .base)) R.Length _ x e in
+    let b = passed (ltb (f .limit) (f .count s)) R.Ends _ x (a .1) in
+    let c = passed (not (eqb (promised s) (f .base + 15 * f .count s))) R.Length _ x (b .1) in
+    omega (
+      arith,
+      fits .most,
+      ltb-false (f .limit) (f .count s) (b .0),
+      eqb-true (promised s) (f .base + 15 * f .count s) (not-false _ (c .0)),
+    )
+kind-few f fits s false true x e =
     let a = passed (not (eqb (promised s) 9)) R.Length _ x e in
     omega (arith, eqb-true (promised s) 9 (not-false _ (a .0)))
-kind-few s false false x e = bad-good e
+kind-few f fits s false false x e = bad-good e
 
-pub said-few : (s : List ℕ) (x : Said) → saidOf s ≡ good x → promised s ≤ 487
-said-few s x e = kind-few s (eqb (byteAt s 3) 1) (eqb (byteAt s 3) 2) x (is-whole s x e .kind)
+pub said-few : (s : List ℕ) (x : Said) → saidOf s ≡ good x → promised s ≤ 9008
+said-few s x e =
+    kind-few (formOf (byteAt s 2)) (form-fits (byteAt s 2)) s (eqb (byteAt s 3) 1) (eqb (byteAt s 3) 2) x (is-whole s x e .kind)
 
 -- so an answer is small
 pub record Small (ns : List ℕ) (a : BytesAnswer) : Type 0 where
-  pub few : usedOf (a .answer) ≤ 489
+  pub few : usedOf (a .answer) ≤ 9010
   pub nowhere : answerPlace (a .answer) ≡ Nowhere
   pub kept : (r : Refusal) → a .answer ≡ Refused r → a .cells ≡ ns
 
-few-by : (ns : List ℕ) (n : ℕ) (x : Read Said) → ((y : Said) → x ≡ good y → n ≤ 487) → usedOf (pouredBy ns (2 + n) x .answer) ≤ 489
+few-by : (ns : List ℕ) (n : ℕ) (x : Read Said) → ((y : Said) → x ≡ good y → n ≤ 9008) → usedOf (pouredBy ns (2 + n) x .answer) ≤ 9010
 few-by ns n (good y) h = omega (arith, h y refl)
 few-by ns n (bad r) h = omega arith
 

@@ -5,10 +5,12 @@ pub mod LawsEnds
 pub mod LawsRecord
 pub mod LawsRecordOrder
 pub mod LawsSaid
+pub mod LawsMoved
 pub mod LawsAfter
 pub mod LawsNumbers
 pub mod LawsPart
 pub mod LawsFloor
+pub mod LawsForm
 pub mod LawsFeeding
 pub mod LawsRun
 pub mod ExamplesFloor
@@ -16,3 +18,4 @@ pub mod LawsSmall
 pub mod LawsLong
 pub mod LawsMark
 pub mod LawsGathering
+pub mod LawsParts

@@ -1,17 +1,15 @@
 -- Document 01: "n times dx, dy (four bytes each, signed) and a label", "each end in turn 8, label kind 7, codes 6, sides 7", and of
 -- bundle and star calls "check count, directions, sides and 9 as a record does, in its order".
-use Prim.Native.Nat.{ℕ, zero, suc, _+_, _-_, _%_, _/_}
+use Prim.Native.Nat.{ℕ, zero, suc, _+_, _%_, _/_}
 use mathlib.Core.Bool.{not}
-use mathlib.Core.List.{List, [], _∷_, _++_}
+use mathlib.Core.List.{List, [], _∷_}
 use lib.Dec.{eqb, ltb}
-use lib.ListN.{length, replicate}
-use Rattle.de9im.specs.declared.answer.Checked.{Checked}
-use Rattle.de9im.specs.declared.answer.Checked.the-variants.{Fine, Refused}
+use lib.ListN.{length}
 use Rattle.de9im.specs.declared.refusal.Refusal.the-variants as R
 use Rattle.ends.specs.declared.«edge_end».Dir.{Dir}
 use Rattle.ends.specs.declared.«edge_end».EdgeEnd.{EdgeEnd}
-use Rattle.ends.specs.Ends.{badDir, noEnd}
-use Rattle.plan.specs.declared.«end_bytes».EndsRead.{EndsRead}
+use Rattle.ends.specs.Count.{mostEnds}
+use Rattle.ends.specs.Ends.{badDir}
 use Rattle.plan.specs.LabelBytes.{labelAt}
 use Rattle.frame.specs.Words.{fourBytesAt, signedOf}
 use Rattle.frame.specs.Read.{Read, _refuses_, _>>_, _>>=_}
@@ -37,25 +35,9 @@ readEnds (suc n) s at = do
   es ← readEnds n s (at + 15)
   good (e ∷ es)
 
--- bytes that are all ends: fifteen each, at most 32
+-- bytes that are all ends: fifteen each, and request R-11: "Star and bundle calls take 600"
 unfoldable pub endsCall : List ℕ → Ends
 endsCall s = do
   not (eqb (length s % 15) 0) refuses R.Length
-  ltb 32 (length s / 15) refuses R.Ends
+  ltb mostEnds (length s / 15) refuses R.Ends
   readEnds (length s / 15) s 0
-
--- ends in an array of 32: every slot past them is a blank
-abbrev pub paddedEnds : List EdgeEnd → List EdgeEnd
-paddedEnds es = es ++ replicate (32 - length es) noEnd
-
--- no end beside an answer
-abbrev pub noneRead : Checked → EndsRead
-noneRead c = record { answer = c; ends = paddedEnds []; count = 0 }
-
--- what was read, settled whole
-abbrev pub endsRead : Ends → EndsRead
-endsRead (good es) = record { answer = Fine; ends = paddedEnds es; count = length es }
-endsRead (bad r) = noneRead (Refused r)
-
-abbrev pub endsCallOf : List ℕ → EndsRead
-endsCallOf s = endsRead (endsCall s)

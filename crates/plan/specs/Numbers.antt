@@ -1,7 +1,8 @@
 -- Document 01's numbers of a record as a list of conditions, each with its number, in the order that it fixes: "Record order: 1; length
 -- below 2 is 4; 2; 3; length below 7 (kind 1) or not 9 (kind 2) is 4; 5; length not 7 + 15n is 4; node and area positions 6; each end
--- in turn 8, label kind 7, codes 6, sides 7; last 9. Kind 2: 7, 6, 7." The laws of proofs/LawsNumbers.antt say that the number
--- answered is this one.
+-- in turn 8, label kind 7, codes 6, sides 7; last 9. Kind 2: 7, 6, 7." And request R-11's: "2 now means neither 1 nor 2; 5 means above the
+-- version's own limit; kind 1 below length 8 in version 2 is 4." The laws of proofs/LawsNumbers.antt say that the number answered is
+-- this one.
 use Prim.Native.Nat.{ℕ, zero, suc, _+_, _*_}
 use mathlib.Core.Bool.{Bool, false, cond, not, _&&_, _||_}
 use mathlib.Core.List.{List, [], _∷_, _++_}
@@ -10,6 +11,7 @@ use Rattle.star.specs.Completing.{missingLeft}
 use Rattle.ends.specs.Ends.{badDir}
 use Rattle.ends.specs.Star.{joinedOf}
 use Rattle.plan.specs.EndBytes.{Ends, dirAt, readEnds}
+use Rattle.plan.specs.Said.{Form, isVersion, formOf}
 use Rattle.frame.specs.Read.{good, bad}
 use Rattle.frame.specs.Rules.{Rule, _gives_, firstNo, short}
 use Rattle.frame.specs.Words.{byteAt, promised}
@@ -47,13 +49,13 @@ abbrev pub lacksLeft : Ends → Bool
 lacksLeft (good es) = missingLeft (joinedOf es)
 lacksLeft (bad r) = false
 
-abbrev pub nodeRules : List ℕ → List Rule
-nodeRules s =
-    (ltb (promised s) 7 gives 4) ∷
-    (ltb 32 (byteAt s 8) gives 5) ∷
-    (not (eqb (promised s) (7 + 15 * byteAt s 8)) gives 4) ∷
+abbrev pub nodeRules : Form → List ℕ → List Rule
+nodeRules f s =
+    (ltb (promised s) (f .base) gives 4) ∷
+    (ltb (f .limit) (f .count s) gives 5) ∷
+    (not (eqb (promised s) (f .base + 15 * f .count s)) gives 4) ∷
     (badPositions s gives 6) ∷
-    (endsRules (byteAt s 8) s 9 ++ ((lacksLeft (readEnds (byteAt s 8) s 9) gives 9) ∷ []))
+    (endsRules (f .count s) s (2 + f .base) ++ ((lacksLeft (readEnds (f .count s) s (2 + f .base)) gives 9) ∷ []))
 
 abbrev pub edgeRules : List ℕ → List Rule
 edgeRules s = (not (eqb (promised s) 9) gives 4) ∷ labelRules s 4
@@ -62,9 +64,9 @@ abbrev pub recordRules : List ℕ → List Rule
 recordRules s =
     (short s gives 1) ∷
     (ltb (promised s) 2 gives 4) ∷
-    (not (eqb (byteAt s 2) 1) gives 2) ∷
+    (not (isVersion (byteAt s 2)) gives 2) ∷
     (not (eqb (byteAt s 3) 1 || eqb (byteAt s 3) 2) gives 3) ∷
-    cond (eqb (byteAt s 3) 1) (nodeRules s) (edgeRules s)
+    cond (eqb (byteAt s 3) 1) (nodeRules (formOf (byteAt s 2)) s) (edgeRules s)
 
 unfoldable pub recordNo : List ℕ → ℕ
 recordNo s = firstNo (recordRules s)

@@ -1,16 +1,17 @@
 // The ends of a node, from their bytes straight to their bundles: four sums where every wall lies on an axis, else columns that are put in
 // order. No end is kept.
-use crate::end_bytes::dir_at;
 use crate::end_bytes::end_fault;
+use crate::end_columns::put_end_at;
 use crate::label_bytes::mark_at;
+use crate::parts::axis;
+use crate::parts::on_axis;
+use crate::words::four_bytes_at;
 use bundles::bundles;
-use bundles::columns::put_end;
+use bundles::marks::join;
 use bundles::square::no_sums;
 use bundles::square::put_square;
 use bundles::square::square_bundles;
 use de9im::answer::Checked;
-use ends::edge_end::axis;
-use ends::edge_end::on_axis;
 ghost use mathlib.Core.Bool.{true};
 ghost use mathlib.Core.List.{[]};
 ghost use mathlib.Core.Path.{_≡_};
@@ -18,7 +19,7 @@ ghost use Prim.Native.Nat.{_+_, _*_, _≤_};
 ghost use lib.ListN.{length};
 ghost use Rattle.bundles.specs.Square.{Sums};
 ghost use Rattle.plan.specs.EndBytes.{readEnds};
-ghost use Rattle.plan.specs.Inner.Gathering.{SquareRead, Wide, ColumnsRead, Gathered};
+ghost use Rattle.plan.specs.Inner.Gathering.{SquareRead, JoinedRead, Wide, ColumnsRead, Gathered};
 
 // Whether all ends were read, or the first refusal; how many bundles there are, as numbers in what was lent.
 pub struct NodeEnds {
@@ -35,15 +36,16 @@ fn read_square(s: &[u8], at: usize, n: usize, sums: &mut [u32; 4]) -> bool
     let mut i: usize = 0;
     let mut p = at;
     while i < n {
-        let d = dir_at(s, p);
-        if !on_axis(d) {
+        let x = four_bytes_at(s, p);
+        let y = four_bytes_at(s, p + 4);
+        if !on_axis(x, y) {
             return false;
         }
         let fault = end_fault(s, p);
         let Checked::Fine = fault else {
             return false;
         };
-        let k = axis(d) as usize;
+        let k = axis(x, y);
         put_square(mark_at(s, p + 8), k, sums);
         i += 1;
         p += 15;
@@ -72,34 +74,114 @@ fn read_columns(
         let Checked::Fine = fault else {
             return fault;
         };
-        put_end(dir_at(s, p), mark_at(s, p + 8), i, xs, ys, marks, words);
+        put_end_at(s, p, i, xs, ys, marks, words);
         i += 1;
         p += 15;
     }
     Checked::Fine
 }
 
-// At most 32 ends, put in order.
-fn ordered(s: &[u8], at: usize, n: usize, out: &mut [u32]) -> NodeEnds
-    requires { ⌜ (n ≤ 32) × (at + 15 * n ≤ length (now s)) × (32 ≤ length (now out)) ⌝ }
+// Whether all ends were read, or the first refusal; all of them joined, as the number of one bundle.
+pub struct JoinedEnds {
+    pub answer: Checked,
+    pub word: u32,
+}
+
+// n ends from a place on as one bundle, directions not compared.
+pub fn join_ends(s: &[u8], at: usize, n: usize) -> JoinedEnds
+    requires { ⌜ at + 15 * n ≤ length (now s) ⌝ }
+    ensures { λ r. ⌜ JoinedRead n (now (s .entry)) at r ⌝ }
+{
+    let mut word: u32 = 0;
+    let mut i: usize = 0;
+    let mut p = at;
+    while i < n {
+        let answer = end_fault(s, p);
+        let Checked::Fine = answer else {
+            return JoinedEnds { answer, word: 0 };
+        };
+        word = join(word, mark_at(s, p + 8));
+        i += 1;
+        p += 15;
+    }
+    JoinedEnds {
+        answer: Checked::Fine,
+        word,
+    }
+}
+
+// n ends put in order, over columns that are lent.
+fn ordered(
+    s: &[u8],
+    at: usize,
+    n: usize,
+    xs: &mut [i32],
+    ys: &mut [i32],
+    marks: &mut [u32],
+    words: &mut [u32],
+    spare: &mut [u32],
+    out: &mut [u32],
+) -> NodeEnds
+    requires { ⌜ (at + 15 * n ≤ length (now s)) × (n ≤ length (now spare)) × (n ≤ length (now out)) ⌝ }
+    requires { ⌜ Wide n (now xs) (now ys) (now marks) (now words) ⌝ }
+    ensures { λ r. ⌜ Gathered (readEnds n (now (s .entry)) at) r (now (out .exit)) ⌝ }
+{
+    let answer = read_columns(s, at, n, xs, ys, marks, words);
+    let Checked::Fine = answer else {
+        return NodeEnds { answer, count: 0 };
+    };
+    let count = bundles(xs, ys, marks, &mut words[..n], &mut spare[..n], out);
+    NodeEnds { answer, count }
+}
+
+// Columns of 32, and of 600: the one proof serves both.
+fn ordered_few(s: &[u8], at: usize, n: usize, out: &mut [u32]) -> NodeEnds
+    requires { ⌜ (n ≤ 32) × (at + 15 * n ≤ length (now s)) × (n ≤ length (now out)) ⌝ }
     ensures { λ r. ⌜ Gathered (readEnds n (now (s .entry)) at) r (now (out .exit)) ⌝ }
 {
     let mut xs = [0i32; 32];
     let mut ys = [0i32; 32];
     let mut marks = [0u32; 32];
     let mut words = [0u32; 32];
-    let answer = read_columns(s, at, n, &mut xs, &mut ys, &mut marks, &mut words);
-    let Checked::Fine = answer else {
-        return NodeEnds { answer, count: 0 };
-    };
     let mut spare = [0u32; 32];
-    let count = bundles(&xs, &ys, &marks, &mut words[..n], &mut spare[..n], out);
-    NodeEnds { answer, count }
+    ordered(
+        s,
+        at,
+        n,
+        &mut xs,
+        &mut ys,
+        &mut marks,
+        &mut words,
+        &mut spare,
+        out,
+    )
 }
 
-// The bundles of n ends from a place on, or the first refusal.
-pub(crate) fn node_ends(s: &[u8], at: usize, n: usize, out: &mut [u32]) -> NodeEnds
-    requires { ⌜ (n ≤ 32) × (at + 15 * n ≤ length (now s)) × (32 ≤ length (now out)) ⌝ }
+fn ordered_many(s: &[u8], at: usize, n: usize, out: &mut [u32]) -> NodeEnds
+    requires { ⌜ (n ≤ 600) × (at + 15 * n ≤ length (now s)) × (n ≤ length (now out)) ⌝ }
+    ensures { λ r. ⌜ Gathered (readEnds n (now (s .entry)) at) r (now (out .exit)) ⌝ }
+{
+    let mut xs = [0i32; 600];
+    let mut ys = [0i32; 600];
+    let mut marks = [0u32; 600];
+    let mut words = [0u32; 600];
+    let mut spare = [0u32; 600];
+    ordered(
+        s,
+        at,
+        n,
+        &mut xs,
+        &mut ys,
+        &mut marks,
+        &mut words,
+        &mut spare,
+        out,
+    )
+}
+
+// The bundles of n ends from a place on, or the first refusal. Few ends don't pay for 600 places.
+pub fn node_ends(s: &[u8], at: usize, n: usize, out: &mut [u32]) -> NodeEnds
+    requires { ⌜ (n ≤ 600) × (at + 15 * n ≤ length (now s)) × (n ≤ length (now out)) × (4 ≤ length (now out)) ⌝ }
     ensures { λ r. ⌜ Gathered (readEnds n (now (s .entry)) at) r (now (out .exit)) ⌝ }
 {
     let mut sums = no_sums();
@@ -110,5 +192,8 @@ pub(crate) fn node_ends(s: &[u8], at: usize, n: usize, out: &mut [u32]) -> NodeE
             count,
         };
     }
-    ordered(s, at, n, out)
+    if n <= 32 {
+        return ordered_few(s, at, n, out);
+    }
+    ordered_many(s, at, n, out)
 }

@@ -1,4 +1,8 @@
-// Plan records: kind 1, a node with its ends, and kind 2, an isolated edge, checked in document 01's order and poured.
+// Plan records of both versions: kind 1, a node with its ends, and kind 2, an isolated edge, checked in document 01's order and poured.
+use crate::form::base_of;
+use crate::form::count_of;
+use crate::form::is_version;
+use crate::form::limit_of;
 use crate::label_bytes::label_fault;
 use crate::label_bytes::label_read;
 use crate::node_bytes::node_fault;
@@ -11,7 +15,6 @@ use de9im::cells::Cells;
 use de9im::refusal::Refusal;
 use frame::handing_on::none_used;
 use frame::words::two_bytes;
-use frame::words::wide;
 use star::pouring::Node;
 use star::pouring::pour_bundles;
 use star::pouring::pour_edge;
@@ -21,8 +24,9 @@ ghost use Prim.Native.Nat.{_+_, _*_, _≤_};
 ghost use lib.ListN.{length, take};
 ghost use Rattle.ends.specs.declared.«edge_end».EdgeEnd.{EdgeEnd};
 ghost use Rattle.bundles.specs.Shown.{Bundles};
-ghost use Rattle.frame.specs.Words.{byteAt, promised};
-ghost use Rattle.plan.specs.Said.{edgeOf, withEnds, nodeBody, nodeOf};
+ghost use Rattle.frame.specs.Words.{promised};
+ghost use Rattle.plan.specs.Inner.Reading.{nodeFault};
+ghost use Rattle.plan.specs.Said.{formOf, edgeOf, withEnds, nodeBody, nodeOf};
 ghost use Rattle.plan.specs.Record.{refusedAs, pouredBy, recordOf};
 
 fn refused(r: Refusal, cells: Cells) -> BytesAnswer
@@ -76,21 +80,20 @@ fn pour_node(cells: Cells, used: usize, node: Node, out: &[u32], count: usize) -
     }
 }
 
-// A node of n ends whose count and length are right.
-fn node_body(cells: Cells, s: &[u8], used: usize, n: usize) -> BytesAnswer
-    requires { ⌜ n ≡ byteAt (now s) 8 ⌝ }
-    requires { ⌜ (n ≤ 32) × (9 + 15 * n ≤ length (now s)) ⌝ }
-    ensures { λ x. ⌜ x ≡ pouredBy cells used (nodeBody (now (s .entry))) ⌝ }
+// A node's ends from a place on, poured over it. What was lent has room for the bundles.
+fn pour_ends(
+    cells: Cells,
+    s: &[u8],
+    used: usize,
+    at: usize,
+    n: usize,
+    out: &mut [u32],
+) -> BytesAnswer
+    requires { ⌜ (n ≤ 600) × (8 ≤ at) × (at + 15 * n ≤ length (now s)) × (n ≤ length (now out)) × (4 ≤ length (now out)) ⌝ }
+    requires { ⌜ nodeFault (now s) ≡ Checked.Fine ⌝ }
+    ensures { λ x. ⌜ x ≡ pouredBy cells used (nodeBody n at (now (s .entry))) ⌝ }
 {
-    let fault = node_fault(s);
-    let Checked::Fine = fault else {
-        return BytesAnswer {
-            answer: none_used(fault),
-            cells,
-        };
-    };
-    let mut out = [0u32; 32];
-    let read = node_ends(s, 9, n, &mut out);
+    let read = node_ends(s, at, n, out);
     let answer = read.answer;
     let Checked::Fine = answer else {
         return BytesAnswer {
@@ -100,25 +103,62 @@ fn node_body(cells: Cells, s: &[u8], used: usize, n: usize) -> BytesAnswer
     };
     let node = node_read(s);
     let count = read.count;
-    pour_node(cells, used, node, &out, count)
+    pour_node(cells, used, node, out, count)
+}
+
+fn pour_few(cells: Cells, s: &[u8], used: usize, at: usize, n: usize) -> BytesAnswer
+    requires { ⌜ (n ≤ 32) × (8 ≤ at) × (at + 15 * n ≤ length (now s)) ⌝ }
+    requires { ⌜ nodeFault (now s) ≡ Checked.Fine ⌝ }
+    ensures { λ x. ⌜ x ≡ pouredBy cells used (nodeBody n at (now (s .entry))) ⌝ }
+{
+    let mut out = [0u32; 32];
+    pour_ends(cells, s, used, at, n, &mut out)
+}
+
+fn pour_many(cells: Cells, s: &[u8], used: usize, at: usize, n: usize) -> BytesAnswer
+    requires { ⌜ (n ≤ 600) × (8 ≤ at) × (at + 15 * n ≤ length (now s)) ⌝ }
+    requires { ⌜ nodeFault (now s) ≡ Checked.Fine ⌝ }
+    ensures { λ x. ⌜ x ≡ pouredBy cells used (nodeBody n at (now (s .entry))) ⌝ }
+{
+    let mut out = [0u32; 600];
+    pour_ends(cells, s, used, at, n, &mut out)
+}
+
+// A node of n ends whose count and length are right. One of few ends doesn't pay for 600.
+fn node_body(cells: Cells, s: &[u8], used: usize, at: usize, n: usize) -> BytesAnswer
+    requires { ⌜ (n ≤ 600) × (8 ≤ at) × (at + 15 * n ≤ length (now s)) ⌝ }
+    ensures { λ x. ⌜ x ≡ pouredBy cells used (nodeBody n at (now (s .entry))) ⌝ }
+{
+    let fault = node_fault(s);
+    let Checked::Fine = fault else {
+        return BytesAnswer {
+            answer: none_used(fault),
+            cells,
+        };
+    };
+    if n <= 32 {
+        return pour_few(cells, s, used, at, n);
+    }
+    pour_many(cells, s, used, at, n)
 }
 
 // Kind 1, of n bytes.
-fn node_record(cells: Cells, s: &[u8], n: usize) -> BytesAnswer
+fn node_record(cells: Cells, s: &[u8], n: usize, version: u8) -> BytesAnswer
     requires { ⌜ (n ≡ promised (now s)) × (2 + n ≤ length (now s)) ⌝ }
-    ensures { λ x. ⌜ x ≡ pouredBy cells (2 + promised (now (s .entry))) (nodeOf (now (s .entry))) ⌝ }
+    ensures { λ x. ⌜ x ≡ pouredBy cells (2 + promised (now (s .entry))) (nodeOf (formOf version) (now (s .entry))) ⌝ }
 {
-    if n < 7 {
+    let base = base_of(version);
+    if n < base {
         return refused(Refusal::Length, cells);
     }
-    let count = wide(s[8]) as usize;
-    if 32 < count {
+    let count = count_of(version, s);
+    if limit_of(version) < count {
         return refused(Refusal::Ends, cells);
     }
-    if n != 7 + 15 * count {
+    if n != base + 15 * count {
         return refused(Refusal::Length, cells);
     }
-    node_body(cells, s, 2 + n, count)
+    node_body(cells, s, 2 + n, 2 + base, count)
 }
 
 // One record from the front of s; bytes after it don't matter.
@@ -135,12 +175,13 @@ pub fn record(cells: Cells, s: &[u8]) -> BytesAnswer
     if n < 2 {
         return refused(Refusal::Length, cells);
     }
-    if s[2] != 1 {
+    let version = s[2];
+    if !is_version(version) {
         return refused(Refusal::Version, cells);
     }
     let kind = s[3];
     if kind == 1 {
-        return node_record(cells, s, n);
+        return node_record(cells, s, n, version);
     }
     if kind == 2 {
         return edge_record(cells, s, n);

@@ -100,7 +100,7 @@ fn room(letter: u8, n: usize) -> usize
         b'K' => 224,
         b'A' | b'Y' => 25,
         b'J' => 536,
-        b'U' => n,
+        b'U' | b'Z' => n,
         b'E' | b'F' | b'C' => least(n, 100),
         _ => 9,
     }
@@ -135,18 +135,22 @@ fn asked(letter: u8, h: Head, given: &[u8], due: &[u8]) -> bool {
 }
 
 fn is_writing(letter: u8) -> bool {
-    (letter == b'E') | (letter == b'F') | (letter == b'C') | (letter == b'U')
+    (letter == b'E') | (letter == b'F') | (letter == b'C') | (letter == b'U') | (letter == b'Z')
 }
 
-// Of the bytes given to C the first are the report, as many as the dimension says; of those given to U, the numbers, four bytes each.
-fn read_first(letter: u8, dimension: u8) -> usize {
-    if letter == b'U' {
-        return 4 * (dimension as usize);
+// Of the bytes given to C the first are the report, as many as the dimension says; of those given to U, the numbers, four bytes each; of
+// those given to Z the record, as many as a says.
+fn read_first(letter: u8, h: Head) -> usize {
+    if letter == b'Z' {
+        return h.a as usize;
     }
-    dimension as usize
+    if letter == b'U' {
+        return 4 * (h.dimension as usize);
+    }
+    h.dimension as usize
 }
 
-// Reports and texts are written into a copy of the case.
+// Reports, texts and records are written into a copy of the case.
 fn written(letter: u8, h: Head, n: usize, c: &[u8], copy: &mut [u8], due: &[u8]) -> bool
     requires { ⌜ (n ≤ 600) × (length (now c) ≡ 1280) × (length (now copy) ≡ 1280) ⌝ }
 {
@@ -157,10 +161,13 @@ fn written(letter: u8, h: Head, n: usize, c: &[u8], copy: &mut [u8], due: &[u8])
     if letter == b'F' {
         return plan_calls::write_short_report(h, &mut copy[24..end], due);
     }
-    let count = least(least(read_first(letter, h.dimension), n), due.len());
+    let count = least(least(read_first(letter, h), n), due.len());
     let from = 24 + count;
     if letter == b'U' {
         return shape_calls::write_wkt(h, &c[24..from], &mut copy[from..end], &due[count..]);
+    }
+    if letter == b'Z' {
+        return plan_calls::convert_record(h, &c[24..from], &mut copy[from..end], &due[count..]);
     }
     plan_calls::convert_report(h, &c[24..from], &mut copy[from..end], &due[count..])
 }

@@ -3,11 +3,10 @@ use crate::case::Head;
 use crate::case::eight;
 use crate::case::least;
 use crate::matrix_calls::same_nine;
-use de9im::answer::Checked;
-use de9im::refusal::number;
-use pieces::lent::finish_lent;
-use pieces::lent::push_lent;
-use pieces::lent::start_lent;
+use misonkandi::floors::misonkandi_finish;
+use misonkandi::floors::misonkandi_push;
+use misonkandi::floors::misonkandi_start;
+use pieces::state::STATE;
 
 // Due are nine cells, the bytes used and the records accepted.
 fn same_floor(cells: [u8; 9], answer: [u64; 2], due: &[u8]) -> bool {
@@ -24,22 +23,16 @@ pub(crate) fn floor(h: Head, bytes: &[u8], due: &[u8]) -> bool {
     (word == h.word) & same_floor(cells, answer, due)
 }
 
-// A refusal of a record has no place.
-fn stop_word(stop: Checked) -> u32 {
-    match stop {
-        Checked::Fine => 0,
-        Checked::Refused(r) => 2147483648 + 256 * number(r),
-    }
-}
-
-// In two pieces: as many bytes as the dimension says, then the rest. Asked of what the calls over C pass on to: a caller that lends a
-// struct is proved by hand.
+// In two pieces: as many bytes as the dimension says, then the rest.
 pub(crate) fn in_pieces(h: Head, bytes: &[u8], due: &[u8]) -> bool {
-    let cells = h.cells;
     let cut = least(h.dimension as usize, bytes.len());
-    let part = push_lent(start_lent(&cells), &bytes[0..cut]);
-    let f = finish_lent(push_lent(part, &bytes[cut..]));
-    let stop = f.stop;
-    let left = f.cells;
-    (stop_word(stop) == h.word) & same_floor(left, [f.used as u64, f.records as u64], due)
+    let mut state = [0u8; STATE];
+    let start = h.cells;
+    misonkandi_start(&mut state, &start);
+    misonkandi_push(&mut state, &bytes[0..cut]);
+    misonkandi_push(&mut state, &bytes[cut..]);
+    let mut cells = [9u8; 9];
+    let mut answer = [9u64; 2];
+    let word = misonkandi_finish(&state, &mut cells, &mut answer);
+    (word == h.word) & same_floor(cells, answer, due)
 }

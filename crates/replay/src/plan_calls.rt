@@ -2,13 +2,30 @@
 // which no label has.
 use crate::case::Head;
 use crate::matrix_calls::same_nine;
+ghost use Prim.Native.Nat.{_≤_};
 
 fn same_label(label: [u8; 7], due: &[u8]) -> bool {
     check::same(&label, due)
 }
 
-fn same_labels(labels: [u8; 224], due: &[u8]) -> bool {
-    check::same(&labels, due)
+// How many bytes a star call leaves to be compared: those of its labels, or all that it was lent.
+fn told(word: u32) -> usize
+    ensures { λ r. ⌜ r ≤ 224 ⌝ }
+{
+    if word <= 32 {
+        return 7 * (word as usize);
+    }
+    224
+}
+
+// Behind the labels stands what was lent, which a case leaves off.
+fn same_labels(labels: [u8; 224], word: u32, due: &[u8]) -> bool {
+    if due.len() < 224 {
+        return false;
+    }
+    let lent = [9u8; 224];
+    let n = told(word);
+    check::same(&labels[..n], &due[..n]) & check::same(&labels[n..], &lent[n..])
 }
 
 fn infinite() -> f64 {
@@ -61,7 +78,7 @@ pub(crate) fn bundle(h: Head, ends: &[u8], due: &[u8]) -> bool {
 pub(crate) fn star(h: Head, ends: &[u8], due: &[u8]) -> bool {
     let mut labels = [9u8; 224];
     let word = misonkandi::stars::misonkandi_star(ends, h.a, h.b, &mut labels);
-    (word == h.word) & same_labels(labels, due)
+    (word == h.word) & same_labels(labels, word, due)
 }
 
 pub(crate) fn record(h: Head, bytes: &[u8], due: &[u8]) -> bool {
@@ -95,5 +112,11 @@ pub(crate) fn write_short_report(h: Head, buffer: &mut [u8], due: &[u8]) -> bool
 
 pub(crate) fn convert_report(h: Head, report: &[u8], buffer: &mut [u8], due: &[u8]) -> bool {
     let word = misonkandi::reports::misonkandi_convert_report(report, buffer, offset_of(h));
+    (word == h.word) & check::same(buffer, due)
+}
+
+// The offset is b.
+pub(crate) fn convert_record(h: Head, record: &[u8], buffer: &mut [u8], due: &[u8]) -> bool {
+    let word = misonkandi::conversions::misonkandi_convert_record(record, buffer, h.b as usize);
     (word == h.word) & check::same(buffer, due)
 }

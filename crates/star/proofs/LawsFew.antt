@@ -15,6 +15,7 @@ use Rattle.ends.specs.declared.label.Label.{Label}
 use Rattle.de9im.specs.declared.answer.Checked.the-variants.{Fine}
 use Rattle.de9im.proofs.LawsApart.{fine-refused}
 use Rattle.de9im.specs.declared.refusal.Refusal.the-variants.{MissingLeft}
+use Rattle.ends.specs.Count.{mostEnds}
 use Rattle.ends.specs.Label.{blank}
 use Rattle.ends.specs.Direction.{orderOf}
 use Rattle.ends.specs.Star.{putBy, insertDir, dirsFrom, dirsOf, bundleAt, bundlesOf, joinedOf}
@@ -61,5 +62,5 @@ module _ (es : List EdgeEnd) (pa pb : Position) (e : starOf es pa pb .answer ≡
   unfolding completedStar
   star-labels =
       rw (accepted (missingLeft (joinedOf es)) refl)
-      (take-at (completedOf pa pb (joinedOf es)) (replicate (32 - length (completedOf pa pb (joinedOf es))) blank)
+      (take-at (completedOf pa pb (joinedOf es)) (replicate (mostEnds - length (completedOf pa pb (joinedOf es))) blank)
       (length (completedOf pa pb (joinedOf es))) refl)

@@ -23,6 +23,7 @@ use Rattle.star.specs.Answers.{bundledNo, bundledPlace, labeledNo, label
 use Rattle.ends.specs.Bundle.{joinOf}
 use Rattle.star.specs.Calls.{bundledAs, bundledOf, refusedStar, completedStar, starOf, starAs, starCall, pouredAs, pouredStar}
 use Rattle.star.specs.Completing.{missingLeft, completedOf}
+use Rattle.ends.specs.Count.{mostEnds}
 use Rattle.ends.specs.Ends.{badDir, lineWithSide, faultOf, orFault, firstFault, checkedOf}
 use Rattle.ends.specs.Label.{padded}
 use Rattle.ends.specs.Star.{joinedOf}
@@ -61,7 +62,7 @@ count-number false c = refl
 
 pub check-number : (ends : List EdgeEnd) (n : ℕ) → checkedNo (checkedOf ends n) ≡ bundleNo ends n
 unfolding checkedOf
-check-number ends n = count-number (ltb 32 n) (firstFault (take n ends)) ∙ rw (ends-number (take n ends)) refl
+check-number ends n = count-number (ltb mostEnds n) (firstFault (take n ends)) ∙ rw (ends-number (take n ends)) refl
 
 -- a bundle call
 bundled-number : (c : Checked) (l : Label) → bundledNo (bundledAs c l) ≡ checkedNo c
@@ -125,7 +126,7 @@ ends-place (e ∷ es) = or-place (faultOf e) (firstFault es) (fault-place e) (en
 
 pub check-place : (ends : List EdgeEnd) (n : ℕ) → checkedPlace (checkedOf ends n) ≡ Nowhere
 unfolding checkedOf
-check-place ends n = go (ltb 32 n)
+check-place ends n = go (ltb mostEnds n)
   where
     go : (b : Bool) → checkedPlace (cond b (Refused Ends) (firstFault (take n ends))) ≡ Nowhere
     go true = refl

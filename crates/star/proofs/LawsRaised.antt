@@ -6,7 +6,7 @@ use mathlib.Core.List.{List, [], _∷_}
 use native.Mathlib.Omega.{arith}
 use native.Mathlib.Nat.{mod-lt, mul-mod-left, pow-suc, div-eq-of-lt, mod-eq-of-lt, zero-div}
 use borrow.Author.Tests.{eqb-true, eqb-false, ltb-true, ltb-false}
-use lib.Bits.{bitOr, or-shr, or-mod, or-zero-r}
+use lib.Bits.{bitAnd, bitOr, bitXor, and-zero-l, and-shr, and-mod, or-shr, or-mod, xor-shr, xor-mod}
 use lib.Dec.{eqb, ltb}
 use lib.ListN.{length, getD}
 use lib.Pow.{pow-add, pow-lt, shl-shr}
@@ -43,6 +43,36 @@ pub bit-or : (x y k : ℕ) → bitIn (bitOr x y) k ≡ max (bitIn x k) (bitIn y 
 bit-or x y k =
     rw (or-shr x y k, or-mod (x / 2 ^ k) (y / 2 ^ k) 1)
     (or-one (x / 2 ^ k % 2) (y / 2 ^ k % 2) (mod-lt (x / 2 ^ k) (omega arith)) (mod-lt (y / 2 ^ k) (omega arith)))
+
+-- the two bits of what a cell is raised to, by its bits in the three sets
+without : (p l : ℕ) → p < 2 → l < 2 → bitXor p (bitAnd p l) ≡ p - l
+without zero l h k = rw (and-zero-l l) (omega arith)
+without (suc zero) zero h k = refl
+without (suc zero) (suc zero) h k = refl
+without (suc zero) (suc (suc l)) h k = absurd (omega arith)
+without (suc (suc p)) l h k = absurd (omega arith)
+
+two-bits : (p l a : ℕ) → p < 2 → l < 2 → a < 2 → 2 * bitOr l a + bitOr a (bitXor p (bitAnd p l)) ≡ max p (max (2 * l) (3 * a))
+two-bits p l a h i j = rw (without p l h i, or-one l a i j, or-one a (p - l) j (omega arith)) (omega arith)
+
+pub raised-bits : (r : Raised) (k : ℕ)
+    → 2 * bitIn (bitOr (r .lines) (r .areas)) k + bitIn (bitOr (r .areas) (bitXor (r .points) (bitAnd (r .points) (r .lines)))) k
+    ≡ raisedAt r k
+unfolding raisedAt
+raised-bits r k =
+    let p = r .points / 2 ^ k in
+    let l = r .lines / 2 ^ k in
+    let a = r .areas / 2 ^ k in
+    rw (
+      or-shr (r .lines) (r .areas) k,
+      or-mod l a 1,
+      or-shr (r .areas) (bitXor (r .points) (bitAnd (r .points) (r .lines))) k,
+      xor-shr (r .points) (bitAnd (r .points) (r .lines)) k,
+      and-shr (r .points) (r .lines) k,
+      or-mod a (bitXor p (bitAnd p l)) 1,
+      xor-mod p (bitAnd p l) 1,
+      and-mod p l 1,
+    ) (two-bits (p % 2) (l % 2) (a % 2) (mod-lt p (omega arith)) (mod-lt l (omega arith)) (mod-lt a (omega arith)))
 
 -- a bit of the set of one cell
 even : (d : ℕ) → 2 ^ suc d % 2 ≡ 0

@@ -2,14 +2,13 @@
 use Prim.Native.Nat.{ℕ, _/_, _%_}
 use mathlib.Core.Path.{_≡_, refl, sym, ap, _∙_}
 use mathlib.Core.Bool.{Bool, true, false, cond, not, _&&_, _||_, or-false}
-use mathlib.Core.List.{List, [], _∷_, _++_, map, append-assoc}
+use mathlib.Core.List.{List, [], _∷_, _++_, map, append-assoc, append-nil}
 use lib.Bits.{bitOr, or-zero-r}
 use lib.Dec.{eqb}
 use Rattle.de9im.specs.declared.«coordinate_position».Position.{Position}
 use Rattle.de9im.specs.declared.«coordinate_position».Position.the-variants.{None, OnBoundary}
 use Rattle.ends.specs.declared.label.Label.{Label}
 use Rattle.ends.specs.Label.{isNone, isPos, orElse}
-use Rattle.ends.proofs.LawsLists.{append-nil}
 use Rattle.ends.proofs.LawsOrder.{All}
 use Rattle.bundles.specs.Marks.{onShown, sideShown, placeOf}
 use Rattle.bundles.specs.Shown.{shownWord}

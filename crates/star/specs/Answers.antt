@@ -1,7 +1,8 @@
 -- Document 01: "If an answer is an enum, a definition sets out this paper's number and values for each of the enum's cases." And the
--- numbers of a bundle call and of a star call, from their conditions alone: "5 more than 32 ends", "7 .. a line label with a side",
--- "8 direction 0,0 or a part beyond ±2,000,000,000", "9 for one geometry, some area bundle has a left and some has a right but no left",
--- in a record's order: "5; .. each end in turn 8, .. sides 7; last 9". An answer that isn't a refusal has number 0 and no place.
+-- numbers of a bundle call and of a star call, from their conditions alone: "5 more than 32 ends" (request R-11: "Star and bundle calls
+-- take 600"), "7 .. a line label with a side", "8 direction 0,0 or a part beyond ±2,000,000,000", "9 for one geometry, some area bundle
+-- has a left and some has a right but no left", in a record's order: "5; .. each end in turn 8, .. sides 7; last 9". An answer that isn't
+-- a refusal has number 0 and no place.
 use Prim.Native.Nat.{ℕ, zero, suc}
 use mathlib.Core.Bool.{cond}
 use mathlib.Core.List.{List, [], _∷_}
@@ -17,6 +18,7 @@ use Rattle.star.specs.declared.«edge_end_bundle».Bundled.{Bundled}
 use Rattle.star.specs.declared.«edge_end_bundle».Bundled.the-variants.{Joined, Refused}
 use Rattle.star.specs.declared.«edge_end_bundle_star».Labeled.{Labeled}
 use Rattle.star.specs.Completing.{missingLeft}
+use Rattle.ends.specs.Count.{mostEnds}
 use Rattle.ends.specs.Ends.{badDir, lineWithSide}
 use Rattle.ends.specs.Label.{blank}
 use Rattle.ends.specs.Star.{joinedOf}
@@ -56,7 +58,7 @@ endsNo (e ∷ es) = orNo (endNo e) (endsNo es)
 
 -- of a bundle call with n ends
 abbrev pub bundleNo : List EdgeEnd → ℕ → ℕ
-bundleNo ends n = cond (ltb 32 n) 5 (endsNo (take n ends))
+bundleNo ends n = cond (ltb mostEnds n) 5 (endsNo (take n ends))
 
 -- of a star whose ends are checked, and of a star call
 abbrev pub leftNo : List EdgeEnd → ℕ

@@ -4,5 +4,6 @@ pub mod Walking
 pub mod Digits
 pub mod Places
 pub mod Raised
+pub mod Started
 pub mod Starts
 pub mod Walked

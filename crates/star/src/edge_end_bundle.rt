@@ -5,6 +5,7 @@ use bundles::shown::label_of;
 use de9im::answer::Checked;
 use de9im::refusal::Refusal;
 use ends::edge_end::EdgeEnd;
+use ends::edge_end::MOST_ENDS;
 use ends::edge_end::check;
 use ends::label::Label;
 use ends::label::blank;
@@ -12,11 +13,12 @@ ghost use mathlib.Core.Path.{_≡_};
 ghost use Prim.Native.Nat.{_≤_};
 ghost use lib.ListN.{take};
 ghost use Rattle.ends.specs.Bundle.{joinOf};
+ghost use Rattle.ends.specs.Count.{mostEnds};
 ghost use Rattle.star.specs.Calls.{bundledAs, bundledOf};
 
 // The label of the first n ends, directions not compared.
-fn join_ends(ends: [EdgeEnd; 32], n: usize) -> Label
-    requires { ⌜ n ≤ 32 ⌝ }
+fn join_ends(ends: [EdgeEnd; MOST_ENDS], n: usize) -> Label
+    requires { ⌜ n ≤ mostEnds ⌝ }
     ensures { λ r. ⌜ r ≡ joinOf (take n ends) ⌝ }
 {
     let mut t: u32 = 0;
@@ -36,7 +38,7 @@ pub enum Bundled {
 }
 
 // A check's answer, with the label that is joined where nothing is refused.
-fn bundled_as(c: Checked, l: Label) -> Bundled
+pub fn bundled_as(c: Checked, l: Label) -> Bundled
     ensures { λ r. ⌜ r ≡ bundledAs c l ⌝ }
 {
     match c {
@@ -46,7 +48,7 @@ fn bundled_as(c: Checked, l: Label) -> Bundled
 }
 
 // One bundle of all the ends, once they are checked. 9 can't arise: nothing is completed.
-pub fn bundle(ends: [EdgeEnd; 32], count: usize) -> Bundled
+pub fn bundle(ends: [EdgeEnd; MOST_ENDS], count: usize) -> Bundled
     ensures { λ r. ⌜ r ≡ bundledOf ends count ⌝ }
 {
     let c = check(ends, count);

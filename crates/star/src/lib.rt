@@ -3,7 +3,7 @@
 pub(crate) mod digits;
 pub mod edge_end_bundle;
 pub mod edge_end_bundle_star;
-pub(crate) mod places;
+pub mod places;
 pub mod pouring;
 pub(crate) mod raised;
 pub(crate) mod start;

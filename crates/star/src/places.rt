@@ -11,7 +11,7 @@ use order::pick::pick;
 ghost use mathlib.Core.Path.{_≡_};
 ghost use Rattle.star.specs.Inner.Places.{completedWord, labelPlaces, positionOf, labelIn};
 
-pub(crate) struct Places {
+pub struct Places {
     pub area: bool,
     pub on: u32,
     pub left: u32,
@@ -20,7 +20,7 @@ pub(crate) struct Places {
 
 // A bundle's label, completed: a none becomes what is current, and so does a left beside a right of none. The left is current after it.
 // A line's sides are completed as an area's: it has none, and nobody looks at them.
-pub(crate) fn complete_word(cur: u32, t: u32) -> Places
+pub fn complete_word(cur: u32, t: u32) -> Places
     ensures { λ r. ⌜ r ≡ completedWord cur t ⌝ }
 {
     let on = t / 256 % 16;

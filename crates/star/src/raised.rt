@@ -6,8 +6,8 @@ use de9im::cells::Cells;
 use de9im::coordinate_position::Position;
 use order::pick::pick;
 ghost use mathlib.Core.Path.{_≡_};
-ghost use Prim.Native.Nat.{_*_, _≤_, _<_, min, max};
-ghost use Rattle.star.specs.Inner.Raised.{cellBit, nodeRaised, bitIn, raisedBy, raisedAt, pouredCells};
+ghost use Prim.Native.Nat.{_+_, _*_, _≤_, _<_, min, max};
+ghost use Rattle.star.specs.Inner.Raised.{cellBit, nodeRaised, bitIn, raisedBy, pouredCells};
 
 pub(crate) struct Raised {
     pub points: u32,
@@ -66,30 +66,29 @@ fn bit_in(x: u32, k: u32) -> u8
     ((x >> k) % 2) as u8
 }
 
-// What the cell at bit k becomes: the largest of what it is and what it is raised to.
-fn cell(old: u8, r: Raised, k: u32) -> u8
+// What the cell at bit k becomes: the larger of what it is and the number that its two bits make.
+fn cell(old: u8, high: u32, low: u32, k: u32) -> u8
     requires { ⌜ k < 32 ⌝ }
-    ensures { λ n. ⌜ n ≡ max (min old 3) (raisedAt r k) ⌝ }
+    ensures { λ n. ⌜ n ≡ max (min old 3) (2 * bitIn high k + bitIn low k) ⌝ }
 {
-    let point = bit_in(r.points, k);
-    let line = 2 * bit_in(r.lines, k);
-    let area = 3 * bit_in(r.areas, k);
-    larger(read(old), larger(point, larger(line, area)))
+    larger(read(old), 2 * bit_in(high, k) + bit_in(low, k))
 }
 
-// The nine cells of known positions, raised.
+// The nine cells of known positions, raised: to 3 by an area, else to 2 by a line, else to 1 by a point.
 pub(crate) fn pour(cells: Cells, r: Raised) -> Cells
     ensures { λ s. ⌜ s ≡ pouredCells cells r ⌝ }
 {
+    let high = r.lines | r.areas;
+    let low = r.areas | (r.points ^ (r.points & r.lines));
     [
-        cell(cells[0], r, 5),
-        cell(cells[1], r, 6),
-        cell(cells[2], r, 7),
-        cell(cells[3], r, 9),
-        cell(cells[4], r, 10),
-        cell(cells[5], r, 11),
-        cell(cells[6], r, 13),
-        cell(cells[7], r, 14),
-        cell(cells[8], r, 15),
+        cell(cells[0], high, low, 5),
+        cell(cells[1], high, low, 6),
+        cell(cells[2], high, low, 7),
+        cell(cells[3], high, low, 9),
+        cell(cells[4], high, low, 10),
+        cell(cells[5], high, low, 11),
+        cell(cells[6], high, low, 13),
+        cell(cells[7], high, low, 14),
+        cell(cells[8], high, low, 15),
     ]
 }

@@ -21,12 +21,10 @@ use Rattle.plan.specs.Floor.{floorOf}
 use Rattle.stream.specs.declared.Told.{Told}
 use Rattle.stream.specs.declared.Told.the-variants as T
 use Rattle.stream.specs.declared.Outcome.{Outcome}
-use Rattle.pieces.specs.declared.pieces.State.{State}
 use Rattle.stream.specs.declared.reading.Got.{Got}
 use Rattle.stream.specs.declared.reading.Got.the-variants as G
 use Rattle.stream.specs.declared.reading.Next.{Next}
 use Rattle.stream.specs.declared.reading.Next.the-variants as N
-use Rattle.stream.specs.declared.reading.Turn.{Turn}
 use Rattle.stream.specs.Lines.{Prints}
 use Rattle.pieces.specs.Pieces.{countedAs, Holds}
 
@@ -67,16 +65,16 @@ Fits room G.Again = Unit {0}
 Fits room G.Failed = Unit {0}
 
 -- bytes that came: the state stands for them too
-pub record Taken (s : State) (new : List ℕ) (r : Turn) : Type 0 where
-  pub holds : (ns bs : List ℕ) → Holds ns bs s → Holds ns (bs ++ new) (r .state)
-  pub next : (ns bs : List ℕ) → Holds ns bs s → r .next ≡ nextOf (floorOf ns (bs ++ new) .stop)
+pub record Taken (s new : List ℕ) (r : Next) (t : List ℕ) : Type 0 where
+  pub holds : (ns bs : List ℕ) → Holds ns bs s → Holds ns (bs ++ new) t
+  pub next : (ns bs : List ℕ) → Holds ns bs s → r ≡ nextOf (floorOf ns (bs ++ new) .stop)
 
 -- what follows from a read: only the end of the input is told as one
-abbrev pub Follows : State → List ℕ → Got → Turn → Type 0
-Follows s buf (G.Bytes n) r = Taken s (take n buf) r
-Follows s buf G.End r = r ≡ record { next = N.Done; state = s }
-Follows s buf G.Again r = r ≡ record { next = N.More; state = s }
-Follows s buf G.Failed r = r ≡ record { next = N.Broken; state = s }
+abbrev pub Follows : List ℕ → List ℕ → Got → Next → List ℕ → Type 0
+Follows s buf (G.Bytes n) r t = Taken s (take n buf) r t
+Follows s buf G.End r t = (r ≡ N.Done) × (t ≡ s)
+Follows s buf G.Again r t = (r ≡ N.More) × (t ≡ s)
+Follows s buf G.Failed r t = (r ≡ N.Broken) × (t ≡ s)
 
 -- how many reads there may be; at a read a nanosecond they take 292 years
 abbrev pub mostReads : ℕ

@@ -5,10 +5,10 @@ use de9im::answer::Checked;
 use de9im::cells::Cells;
 use de9im::refusal::number;
 use libc::EINTR;
-use pieces::pieces::State;
 use pieces::pieces::finish;
 use pieces::pieces::push;
 use pieces::pieces::start;
+use pieces::state::STATE;
 use plan::floor::FloorAnswer;
 ghost use mathlib.Core.Path.{_≡_};
 ghost use mathlib.Core.List.{[]};
@@ -30,12 +30,6 @@ pub enum Next {
     // What is told is the answer to all that came.
     Done,
     Broken,
-}
-
-// After a turn.
-pub struct Turn {
-    pub next: Next,
-    pub state: State,
 }
 
 // Bytes came: a refused record ends it, but for one of which a part is missing.
@@ -86,30 +80,18 @@ fn read_once(fd: i32, buf: &mut [u8]) -> Got
 }
 
 // What follows from one read: its bytes are pushed, the end is told, and a failed read is never taken for the end.
-fn after(s: State, buf: &[u8], got: Got) -> Turn
+fn after(state: &mut [u8; STATE], buf: &[u8], got: Got) -> Next
     requires { ⌜ Fits (length (now buf)) got ⌝ }
-    ensures { λ r. ⌜ Follows s (now (buf .entry)) got r ⌝ }
+    ensures { λ r. ⌜ Follows (now (state .entry)) (now (buf .entry)) got r (now (state .exit)) ⌝ }
 {
     match got {
         Got::Bytes(n) => {
-            let state = push(s, &buf[..n]);
-            Turn {
-                next: next_of(finish(state)),
-                state,
-            }
+            push(state, &buf[..n]);
+            next_of(finish(state))
         }
-        Got::End => Turn {
-            next: Next::Done,
-            state: s,
-        },
-        Got::Again => Turn {
-            next: Next::More,
-            state: s,
-        },
-        Got::Failed => Turn {
-            next: Next::Broken,
-            state: s,
-        },
+        Got::End => Next::Done,
+        Got::Again => Next::More,
+        Got::Failed => Next::Broken,
     }
 }
 
@@ -151,18 +133,17 @@ pub fn read_all(fd: i32) -> Outcome
     ensures { λ r. ⌜ Tells mostReads [] r ⌝ }
 {
     let mut buf = io::large_buffer();
-    let mut s = start(start_cells());
+    let mut state = [0u8; STATE];
+    start(start_cells(), &mut state);
     let mut left: u64 = 9223372036854775808;
     while 0 < left {
         let got = read_once(fd, &mut buf);
-        let t = after(s, &buf, got);
-        let next = t.next;
-        s = t.state;
+        let next = after(&mut state, &buf, got);
         left -= 1;
         match next {
             Next::More => {}
             Next::Done => {
-                return outcome_of(finish(s));
+                return outcome_of(finish(&state));
             }
             Next::Broken => {
                 return broken();

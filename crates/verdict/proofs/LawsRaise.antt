@@ -28,7 +28,7 @@ use Rattle.star.proofs.LawsPouring.{raise-cell}
 use Rattle.plan.specs.EndBytes.{readEnds}
 use Rattle.plan.specs.LabelBytes.{sidesAt, labelAt}
 use Rattle.plan.specs.Record.{recordOf}
-use Rattle.plan.specs.Said.{edgeOf, nodeAt, nodeBody, nodeOf, saidOf}
+use Rattle.plan.specs.Said.{formOf, edgeOf, nodeAt, nodeBody, nodeOf, saidOf}
 use Rattle.plan.proofs.LawsRun.{given-cell}
 use Rattle.verdict.specs.Means.{isBytes}
 
@@ -71,7 +71,7 @@ raiser-bytes p q TwoDimensional = simp code-byte
 pub raiser-accepted : (ns : List ℕ) (p q : CoordPos) (d : Dimensions) → 0 < dimNo d
     → recordOf ns (raiser d p q)
     ≡ record { answer = Used (length (raiser d p q)); cells = cellsOf (atLeastOf (matrixOf ns) (known p) (known q) d) }
-unfolding recordOf saidOf nodeOf nodeBody nodeAt edgeOf labelAt sidesAt readEnds pouredStar completedStar
+unfolding recordOf saidOf formOf nodeOf nodeBody nodeAt edgeOf labelAt sidesAt readEnds pouredStar completedStar
     missingLeft any walkOf startOf filledOf dirsFrom pourNode pourLabel pourLabels
 raiser-accepted ns p q Empty h = absurd (omega arith)
 raiser-accepted ns p q ZeroDimensional h = simp (code-back, is-known)

@@ -1,8 +1,10 @@
 -- Document 01's worked examples hold: one statement over one list, and one over its edges. Each entry by computing the definition that it
 -- is an instance of, so a changed definition breaks it. Assumes nothing.
-use mathlib.Core.Path.{refl}
+use mathlib.Core.Path.{_≡_, refl}
 use mathlib.Core.Bool.{true, false}
+use mathlib.Core.List.{_++_}
 use lib.Ieee.{lt, eq, ofInt}
+use Rattle.de9im.specs.declared.answer.Answer.the-variants.{Used}
 use Rattle.de9im.specs.declared.refusal.Refusal.the-variants.{BadByte}
 use Rattle.de9im.specs.Bytes.{bytes}
 use Rattle.de9im.specs.Letters.{letterOf}
@@ -10,7 +12,7 @@ use Rattle.de9im.specs.Patterns.{checkOf, matchesOf, agreeAll}
 use Rattle.predicates.specs.Predicates.{holds}
 use Rattle.de9im.specs.Text.{cellLetterOf, firstBad}
 use Rattle.ends.specs.Bundle.{count, onJoined, sideJoined, halfJoined, joinOf}
-use Rattle.star.specs.Calls.{bundledOf, completedStar, pouredStar}
+use Rattle.star.specs.Calls.{bundledOf, starCall, completedStar, pouredStar}
 use Rattle.star.specs.Completing.{startOf, walkFrom, walkOf, any, missingLeft, filledOf}
 use Rattle.ends.specs.Direction.{orderOf}
 use Rattle.ends.specs.Ends.{firstFault, checkedOf}
@@ -21,7 +23,7 @@ use Rattle.plan.specs.LabelBytes.{sidesAt, labelAt}
 use Rattle.plan.specs.Record.{recordOf}
 use Rattle.frame.specs.Lent.{wroteOf, writtenOf}
 use Rattle.report.specs.Report.{longBytes}
-use Rattle.plan.specs.Said.{nodeAt, nodeBody, nodeOf, saidOf}
+use Rattle.plan.specs.Said.{formOf, edgeOf, nodeAt, nodeBody, nodeOf, saidOf}
 use Rattle.place.specs.Places.{finite, isPlace}
 use Rattle.place.specs.Relate.{relateOf}
 use Rattle.place.specs.Rules.{boxBox, related}
@@ -32,7 +34,8 @@ use Rattle.verdict.specs.declared.Verdict.the-variants.{Open, NoForGood}
 use Rattle.verdict.specs.declared.pattern.Judged.the-variants as J
 use Rattle.verdict.proofs.LawsLoop.{given}
 use Rattle.worked.specs.Example.{Every, none, _and_, cells}
-use Rattle.worked.specs.Examples.{p1-to-p14, printed, edges, collapsing}
+use Rattle.worked.specs.Examples.{p1-to-p14, printed, many, edges, collapsing, sixHundred, nodeOfMost, versionTwo}
+use Rattle.worked.proofs.LawsMany.{many-behind}
 
 -- the verdict's two: a bad byte; and by what the letters can still come to
 p7 : Judges (J.Refused (BadByte 2)) (bytes "T*X******") (cells "FFFFFFFF2")
@@ -48,7 +51,7 @@ unfolding checkOf firstBad letterOf every cellLetterOf
 p8-no = given (bytes "FF*FF****") (cells "0FFFFFFF2") false false refl refl refl
 
 pub all-hold : Every p1-to-p14
-unfolding recordOf saidOf nodeOf nodeBody nodeAt pouredStar completedStar readEnds endAt dirAt labelAt sidesAt cellLetterOf
+unfolding recordOf saidOf formOf nodeOf nodeBody nodeAt pouredStar completedStar readEnds endAt dirAt labelAt sidesAt cellLetterOf
     orderOf count onJoined sideJoined halfJoined joinOf insertDir dirsFrom keep startOf walkFrom walkOf any missingLeft filledOf
     pourNode pourLabel pourLabels holds agreeAll letterOf matchesOf checkOf firstBad
     lt eq ofInt finite isPlace boxBox related relateOf bundledOf checkedOf firstFault
@@ -61,13 +64,31 @@ unfolding answersOf lineOf holds agreeAll letterOf cellLetterOf
 printed-holds = refl and none
 
 pub edges-hold : Every edges
-unfolding recordOf saidOf nodeOf nodeBody nodeAt pouredStar completedStar readEnds endAt dirAt labelAt sidesAt cellLetterOf
+unfolding recordOf saidOf formOf nodeOf nodeBody nodeAt pouredStar completedStar readEnds endAt dirAt labelAt sidesAt cellLetterOf
     orderOf count onJoined sideJoined halfJoined joinOf insertDir dirsFrom keep startOf walkFrom walkOf any missingLeft filledOf
     pourNode pourLabel pourLabels wroteOf writtenOf longBytes
 edges-hold = refl and refl and refl and refl and refl and none
 
 pub collapsing-holds : Every collapsing
-unfolding recordOf saidOf nodeOf nodeBody nodeAt pouredStar completedStar readEnds endAt dirAt labelAt sidesAt cellLetterOf
+unfolding recordOf saidOf formOf nodeOf nodeBody nodeAt pouredStar completedStar readEnds endAt dirAt labelAt sidesAt cellLetterOf
     orderOf count onJoined sideJoined halfJoined joinOf insertDir dirsFrom keep startOf walkFrom walkOf any missingLeft filledOf
     pourNode pourLabel pourLabels
 collapsing-holds = refl and refl and none
+
+pub six-hundred-hold : Every sixHundred
+unfolding bundledOf starCall completedStar checkedOf firstFault orderOf count onJoined sideJoined halfJoined joinOf insertDir dirsFrom
+    keep startOf walkFrom walkOf any missingLeft filledOf
+six-hundred-hold = refl and refl and refl and refl and none
+
+-- 600 ends as the law reads them, not byte by byte
+most-pass : recordOf (cells "FFFFFFFF2") (nodeOfMost ++ many 600) ≡ record { answer = Used 9010; cells = cells "1FFF0FFF2" }
+unfolding recordOf saidOf formOf edgeOf nodeOf nodeBody nodeAt pouredStar completedStar cellLetterOf
+    orderOf count onJoined sideJoined halfJoined joinOf insertDir dirsFrom keep startOf walkFrom walkOf any missingLeft filledOf
+    pourNode pourLabel pourLabels
+most-pass = rw (many-behind nodeOfMost 600) refl
+
+pub version-two-holds : Every versionTwo
+unfolding recordOf saidOf formOf edgeOf nodeOf nodeBody nodeAt pouredStar completedStar readEnds endAt dirAt labelAt sidesAt cellLetterOf
+    orderOf count onJoined sideJoined halfJoined joinOf insertDir dirsFrom keep startOf walkFrom walkOf any missingLeft filledOf
+    pourNode pourLabel pourLabels
+version-two-holds = refl and most-pass and refl and refl and refl and refl and refl and refl and none

@@ -1,5 +1,5 @@
 -- Document 01: "P1 to P14 stand as one list with a single statement over it". A kind of entry for each kind of question, and what an entry
--- says: an instance of the definition that the operation's contract cites.
+-- says: an instance of the definition that the operation's contract cites. Request R-11's edges are under it too.
 use Prim.Native.Nat.{ℕ, zero, suc}
 use Prim.Native.String.{String}
 use mathlib.Core.Path.{_≡_}
@@ -16,9 +16,12 @@ use Rattle.predicates.specs.Predicates.{holds}
 use Rattle.de9im.specs.Text.{numbersOf}
 use Rattle.ends.specs.declared.label.Label.{Label}
 use Rattle.ends.specs.declared.«edge_end».EdgeEnd.{EdgeEnd}
-use Rattle.star.specs.declared.«edge_end_bundle».Bundled.the-variants.{Joined}
-use Rattle.star.specs.Calls.{bundledOf}
+use Rattle.de9im.specs.declared.«coordinate_position».Position.{Position}
+use Rattle.star.specs.declared.«edge_end_bundle».Bundled.the-variants as B
+use Rattle.star.specs.Calls.{bundledOf, starCall, refusedStar}
+use Rattle.ends.specs.Count.{mostEnds}
 use Rattle.ends.specs.Ends.{noEnd}
+use Rattle.ends.specs.Label.{padded}
 use Rattle.de9im.specs.declared.answer.Answer.{Answer}
 use Rattle.de9im.specs.declared.answer.Answer.the-variants.{Used, Refused}
 use Rattle.plan.specs.Record.{recordOf}
@@ -61,6 +64,12 @@ pub data Example : Type 0 where
   places-give : (first second : Place) (m : String) → Example
   -- the joined label of a bundle call
   bundle-gives : (ends : List EdgeEnd) (l : Label) → Example
+  -- a bundle call, refused
+  bundle-refused : (ends : List EdgeEnd) (r : Refusal) → Example
+  -- the completed labels of a star call, in order
+  star-gives : (ends : List EdgeEnd) (a b : Position) (ls : List Label) → Example
+  -- a star call, refused
+  star-refused : (ends : List EdgeEnd) (a b : Position) (r : Refusal) → Example
   -- what the program prints of a matrix
   program-prints : (m : String) (lines : List String) → Example
   -- a report of a matrix written into a buffer at an offset: the bytes used, and what the buffer then holds
@@ -79,7 +88,11 @@ says (predicate-says p m answer) = holds p (matrixOf (cells m)) ≡ answer
 says (pattern-says p m answer) = matchesOf (matrixOf (cells m)) (bytes p) ≡ answer
 says (verdict-says p m answer) = Judges answer (bytes p) (cells m)
 says (places-give first second m) = relateOf first second ≡ record { answer = Fine; cells = cells m }
-says (bundle-gives ends l) = bundledOf (slots 32 ends) (length ends) ≡ Joined l
+says (bundle-gives ends l) = bundledOf (slots mostEnds ends) (length ends) ≡ B.Joined l
+says (bundle-refused ends r) = bundledOf (slots mostEnds ends) (length ends) ≡ B.Refused r
+says (star-gives ends a b ls) =
+    starCall (slots mostEnds ends) (length ends) a b ≡ record { answer = Fine; labels = padded ls; count = length ls }
+says (star-refused ends a b r) = starCall (slots mostEnds ends) (length ends) a b ≡ refusedStar r
 says (program-prints m lines) = answersOf (cells m) ≡ lined lines
 says (report-gives m buf offset used after) = written m buf offset ≡ (Used used, after)
 says (report-refused m buf offset r) = written m buf offset ≡ (Refused r, buf)

@@ -1,15 +1,17 @@
 -- Document 01, "Examples to prove": P1 to P14; "The program's output .. here for P1"; and "At the edges: 32 ends pass, 33 are 5; a node
--- without ends passes; offset 0 in 12 bytes passes, offset 1 is 12." And request R-6: "one worked star of your own".
+-- without ends passes; offset 0 in 12 bytes passes, offset 1 is 12." Request R-6: "one worked star of your own". Request R-11: "Plan
+-- record version 2 has a two-byte count, up to 600 ends, length 8 + 15n. .. Star and bundle calls take 600."
 use Prim.Native.Nat.{ℕ, zero, suc}
 use mathlib.Core.Bool.{true, false}
 use mathlib.Core.List.{List, [], _∷_, _++_}
 use lib.IntN.{pos}
 use lib.Ieee.{ofInt, binary64}
+use lib.ListN.{replicate}
 use Rattle.de9im.specs.declared.«coordinate_position».Position.{Position}
 use Rattle.de9im.specs.declared.«coordinate_position».Position.the-variants.{None, Inside, OnBoundary}
 use Rattle.de9im.specs.declared.patterns.Matched.the-variants.{Refused}
 use Rattle.predicates.specs.declared.predicate.Predicate.the-variants.{EqualTopo, Crosses, Overlaps}
-use Rattle.de9im.specs.declared.refusal.Refusal.the-variants.{BadByte, Ends, NoRoom}
+use Rattle.de9im.specs.declared.refusal.Refusal.the-variants.{BadByte, Ends, Length, NoRoom, Version}
 use Rattle.de9im.specs.Bytes.{bytes}
 use Rattle.ends.specs.declared.label.Label.{Label}
 use Rattle.ends.specs.declared.«edge_end».EdgeEnd.{EdgeEnd}
@@ -27,6 +29,9 @@ use Rattle.worked.specs.Example.{
   verdict-says,
   places-give,
   bundle-gives,
+  bundle-refused,
+  star-gives,
+  star-refused,
   program-prints,
   report-gives,
   report-refused,
@@ -165,3 +170,27 @@ abbrev pub collapsing : List Example
 collapsing =
     record-gives "FFFFFFFF2" (nodeOfTwo ++ lineEnd two nought onBoundary ++ lineEnd nought minusTwo nothing) 39 "FFF1FF1F2" ∷
     record-gives "FFFFFFFF2" (nodeOfTwo ++ lineEnd nought two onBoundary ++ lineEnd two nought nothing) 39 "FFF1FF1F2" ∷ []
+
+-- request R-11's edge of a call: 600 ends pass, 601 are 5. All in one direction, so an even count on the boundary is Inside
+abbrev pub sixHundred : List Example
+sixHundred =
+    bundle-gives (replicate 600 boundaryEnd) (line Inside) ∷
+    bundle-refused (replicate 601 boundaryEnd) Ends ∷
+    star-gives (replicate 600 boundaryEnd) None None (line Inside ∷ []) ∷
+    star-refused (replicate 601 boundaryEnd) None None Ends ∷ []
+
+-- and of a record of version 2: 503, 9008 and 9023 bytes follow the length, 8 + 15 * 33, 8 + 15 * 600 and 8 + 15 * 601. 257 ends, counted
+-- in two bytes, are not the one that its length is for; seven bytes are too few for a node; there is no version 3
+abbrev pub nodeOfMost : List ℕ
+nodeOfMost = 35 ∷ 48 ∷ 2 ∷ 1 ∷ 2 ∷ 2 ∷ 0 ∷ 0 ∷ 2 ∷ 88 ∷ []
+
+abbrev pub versionTwo : List Example
+versionTwo =
+    record-gives "FFFFFFFF2" ((1 ∷ 247 ∷ 2 ∷ 1 ∷ 2 ∷ 2 ∷ 0 ∷ 0 ∷ 0 ∷ 33 ∷ []) ++ many 33) 505 "FFFF1FFF2" ∷
+    record-gives "FFFFFFFF2" (nodeOfMost ++ many 600) 9010 "1FFF0FFF2" ∷
+    record-refused "FFFFFFFF2" ((35 ∷ 63 ∷ 2 ∷ 1 ∷ 2 ∷ 2 ∷ 0 ∷ 0 ∷ 2 ∷ 89 ∷ []) ++ many 601) Ends ∷
+    record-refused "FFFFFFFF2" ((0 ∷ 23 ∷ 2 ∷ 1 ∷ 2 ∷ 2 ∷ 0 ∷ 0 ∷ 1 ∷ 1 ∷ []) ++ many 1) Length ∷
+    record-gives "FFFFFFFF2" (0 ∷ 8 ∷ 2 ∷ 1 ∷ 1 ∷ 1 ∷ 0 ∷ 0 ∷ 0 ∷ 0 ∷ []) 10 "0FFFFFFF2" ∷
+    record-refused "FFFFFFFF2" (0 ∷ 7 ∷ 2 ∷ 1 ∷ 1 ∷ 1 ∷ 0 ∷ 0 ∷ 0 ∷ []) Length ∷
+    record-gives "FFFFFFFF2" (0 ∷ 9 ∷ 2 ∷ 2 ∷ 0 ∷ 1 ∷ 0 ∷ 0 ∷ 2 ∷ 0 ∷ 0 ∷ []) 11 "F1FFFFFF2" ∷
+    record-refused "FFFFFFFF2" (0 ∷ 8 ∷ 3 ∷ 1 ∷ 1 ∷ 1 ∷ 0 ∷ 0 ∷ 0 ∷ 0 ∷ []) Version ∷ []

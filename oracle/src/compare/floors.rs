@@ -16,8 +16,9 @@ const DAMAGED: [usize; 4] = [100, 400, 1000, 2000];
 const PLACES: usize = 160;
 /// Calls with so many bytes don't wait for others.
 const MANY_BYTES: usize = 20_000;
-/// The longest accepted record.
-const LONGEST: usize = 489;
+/// The longest accepted record of version 1, and of any.
+const LONGEST_OF_VERSION_1: usize = 489;
+const LONGEST: usize = 9010;
 
 pub fn compare(run: &mut Run) {
     good(run);
@@ -185,13 +186,17 @@ fn starts(run: &mut Run) {
     }
 }
 
-/// Floors with the longest records there are: in two pieces at every byte, in pieces of each small size and of each
-/// about the longest record's, cut about each record's start and about what is held of one.
+/// Floors with the longest records of version 1: in two pieces at every byte, in pieces of each small size and of each
+/// about the longest record's, cut about each record's start and its end. many_ends.rs has those of version 2.
 fn cuts(run: &mut Run) {
     run.begin("floor in pieces, cut at every byte, at every size, about every record");
     for _ in 0..run.times(3) {
         let longest = [(); 2].map(|()| accepted_node(&mut run.random, 32));
-        assert!(longest.iter().all(|record| record.len() == LONGEST));
+        assert!(
+            longest
+                .iter()
+                .all(|record| record.len() == LONGEST_OF_VERSION_1)
+        );
         let edge = edge_record(&mut run.random);
         let node = accepted_node(&mut run.random, 0);
         let whole = [&edge[..], &longest[0], &node, &longest[1], &edge].concat();
@@ -206,14 +211,15 @@ fn cuts(run: &mut Run) {
             ask_pieces(run, cells, &counts, whole.clone());
         }
         about(run, cells, &whole, edge.len());
-        about(run, cells, &whole, edge.len() + LONGEST + node.len());
+        let start = edge.len() + LONGEST_OF_VERSION_1 + node.len();
+        about(run, cells, &whole, start);
     }
 }
 
-/// Three cuts behind a record's start: in its length field or just after it, and about what is held of a record.
+/// Three cuts behind a record's start: in its length field or just after it, and about its end.
 fn about(run: &mut Run, cells: [u8; 9], whole: &[u8], start: usize) {
     for early in 0..=4 {
-        for late in LONGEST - 2..=LONGEST + 4 {
+        for late in LONGEST_OF_VERSION_1 - 2..=LONGEST_OF_VERSION_1 + 4 {
             for last in [0, 1, 2, 11] {
                 let places = [early, late, late + last].map(|place| start + place);
                 ask_pieces(run, cells, &cut_at(whole.len(), &places), whole.to_vec());
@@ -222,18 +228,26 @@ fn about(run: &mut Run, cells: [u8; 9], whole: &[u8], start: usize) {
     }
 }
 
-/// Length fields about the longest accepted record's and far above: whole, a byte short, a byte more, a record after.
+/// Length fields about the longest accepted records' and far above: whole, a byte short, a byte more, a record after.
 fn lengths(run: &mut Run) {
     run.begin("floor, length fields up to 65,535: whole, a byte short, a byte more");
-    let long = (480..=500).chain([1000, 4094, 65_533, 65_534, 65_535]);
+    let long = (480..=500)
+        .chain([1000, 4094])
+        .chain(9000..=9030)
+        .chain([65_533, 65_534, 65_535]);
     let heads = [
-        [1, 1, 32],
-        [1, 1, 33],
-        [1, 1, 255],
-        [1, 1, 0],
-        [1, 2, 0],
-        [1, 3, 0],
-        [2, 1, 0],
+        [1, 1, 32, 1],
+        [1, 1, 33, 1],
+        [1, 1, 0, 1],
+        [1, 2, 0, 1],
+        [1, 3, 0, 1],
+        [2, 1, 2, 88],
+        [2, 1, 2, 89],
+        [2, 1, 0, 32],
+        [2, 1, 255, 255],
+        [2, 2, 0, 1],
+        [2, 3, 0, 1],
+        [3, 1, 0, 1],
     ];
     for length in long {
         for head in heads {
@@ -246,15 +260,20 @@ fn lengths(run: &mut Run) {
     one_byte_at_a_time(run);
 }
 
-/// A record with this length field and this version, kind and count of ends, and what may follow it.
-fn long_record(length: u16, [version, kind, ends]: [u8; 3]) -> Vec<u8> {
+/// A record with this length field and this version, kind and count of ends in one byte or two, and what may follow it.
+fn long_record(length: u16, [version, kind, high, low]: [u8; 4]) -> Vec<u8> {
     let mut bytes = length.to_be_bytes().to_vec();
-    bytes.extend([version, kind, 1, 2, 3, 0, ends]);
+    bytes.extend([version, kind, 1, 2, 3, 0, high, low]);
     bytes.resize(2 + usize::from(length), 1);
     bytes
 }
 
-fn of_length(run: &mut Run, start: &[u8], length: u16, head: [u8; 3]) {
+fn of_length(run: &mut Run, start: &[u8], length: u16, head: [u8; 4]) {
+    let longest = if length < 9000 {
+        LONGEST_OF_VERSION_1
+    } else {
+        LONGEST
+    };
     let record = long_record(length, head);
     let after = accepted(&mut run.random);
     let whole = [start, &record, &after].concat();
@@ -263,7 +282,7 @@ fn of_length(run: &mut Run, start: &[u8], length: u16, head: [u8; 3]) {
         let bytes = whole[..count].to_vec();
         ask_on_some(run, bytes.clone());
         let cells = run.random.cells();
-        let held = start.len() + LONGEST + run.random.below(3);
+        let held = start.len() + longest + run.random.below(3);
         let places = [start.len() + 1, held, end.max(held + 1) - 1];
         ask_pieces(run, cells, &cut_at(count, &places), bytes);
     }
@@ -271,7 +290,7 @@ fn of_length(run: &mut Run, start: &[u8], length: u16, head: [u8; 3]) {
 
 /// The longest record that a length field can tell of.
 fn one_byte_at_a_time(run: &mut Run) {
-    for head in [[1, 1, 32], [1, 2, 0], [2, 1, 0]] {
+    for head in [[1, 1, 32, 1], [1, 2, 0, 1], [2, 1, 2, 89], [3, 1, 0, 1]] {
         let mut bytes = edge_record(&mut run.random);
         bytes.extend(long_record(u16::MAX, head));
         let cells = run.random.cells();

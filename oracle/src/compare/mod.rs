@@ -1,8 +1,10 @@
 //! The comparison: the same calls to the crate and to the library, and document 01's rules beside them.
 
 mod changes;
+mod conversions;
 mod directions;
 mod floors;
+mod many_ends;
 mod matches;
 mod outlines;
 mod plan_tally;
@@ -127,6 +129,8 @@ pub fn main() -> i32 {
     wkt_written::compare(&mut run);
     floors::compare(&mut run);
     directions::compare(&mut run);
+    many_ends::compare(&mut run);
+    conversions::compare(&mut run);
     run.answer_waiting();
     run.tally.report()
 }

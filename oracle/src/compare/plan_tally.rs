@@ -7,7 +7,7 @@ use crate::ours::floor_room::{self, FloorRoom};
 use crate::ours::plans::{PlanCall, PlanOp, PlanReply};
 use crate::ours::shape_room::ShapeRoom;
 use crate::rule;
-use crate::rule_plan::{self, PlanOutcome, REACHABLE};
+use crate::rule_plan::{self, Form, PlanOutcome, REACHABLE};
 use crate::rule_star::{END_BYTES, LABEL_BYTES, SINGLE_SIDE};
 use std::collections::BTreeMap;
 
@@ -180,14 +180,11 @@ fn faults(
 /// area positions are looked at: those of the node settle one cell.
 fn size(call: &PlanCall) -> Size {
     let (areas, ends, cells) = match call.op {
-        PlanOp::Record => (call.bytes[6..8].to_vec(), &call.bytes[9..], &call.out[..]),
+        PlanOp::Record => (call.bytes[6..8].to_vec(), ends_of(call), &call.out[..]),
         _ => (vec![call.a as u8, call.b as u8], &call.bytes[..], &[][..]),
     };
-    let count = match call.op {
-        PlanOp::Record => usize::from(call.bytes[8]),
-        _ => ends.len() / END_BYTES,
-    };
-    let ends = &ends.as_chunks::<END_BYTES>().0[..count];
+    let (ends, _) = ends.as_chunks::<END_BYTES>();
+    let count = ends.len();
     let codes = ends.iter().flat_map(|end| &end[8..]).chain(&areas);
     let known = codes.filter(|code| **code != 0).count();
     let cells = cells.iter().map(|cell| usize::from(*cell)).sum();
@@ -198,6 +195,14 @@ fn size(call: &PlanCall) -> Size {
     let lengths = ends.iter().map(length).sum();
     let bytes = [&call.bytes[..], &areas].concat();
     ([count, known, cells, lengths], bytes)
+}
+
+/// The ends of an accepted node's record.
+fn ends_of(call: &PlanCall) -> &[u8] {
+    let form = Form::of(call.bytes[2]).expect("an accepted record");
+    let first = form.first_end();
+    let count = rule_plan::number(&call.bytes[8..first]);
+    &call.bytes[first..first + count * END_BYTES]
 }
 
 /// A star's labels to the last one, a record's matrix.
@@ -226,12 +231,17 @@ fn hex(bytes: &[u8]) -> String {
 fn describe(call: &PlanCall) -> String {
     let given = match call.op {
         PlanOp::Bundle => String::new(),
-        PlanOp::Star => format!(" areas {}, {}", call.a, call.b),
+        PlanOp::Star => {
+            let (a, b, room) = (call.a, call.b, call.out.len());
+            format!(" areas {a}, {b}, room {room}")
+        }
         PlanOp::Record | PlanOp::ReadReport => format!(" on cells {}", hex(&call.out)),
         PlanOp::WriteReport | PlanOp::WriteShortReport => {
             format!(" of cells {} at {}", hex(&call.out), call.offset)
         }
-        PlanOp::ConvertReport => format!(" into {} at {}", hex(&call.out), call.offset),
+        PlanOp::ConvertReport | PlanOp::ConvertRecord => {
+            format!(" into {} at {}", hex(&call.out), call.offset)
+        }
         PlanOp::PointInOutline => {
             let (point, numbers) = (call.point(), call.numbers());
             return format!("{} of {point:?} in {numbers:?}", call.op.name());

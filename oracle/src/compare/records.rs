@@ -32,7 +32,7 @@ pub fn compare(run: &mut Run) {
     numbers_above_3(run);
 }
 
-fn ask(run: &mut Run, bytes: Vec<u8>) {
+pub(super) fn ask(run: &mut Run, bytes: Vec<u8>) {
     let cells = run.random.cells();
     run.ask_plan(PlanCall::on_cells(PlanOp::Record, cells, bytes));
 }

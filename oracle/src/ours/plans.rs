@@ -3,7 +3,7 @@
 //!
 //! What a call is lent stands in one stretch, with guards before, between and after: the bytes that it may write an
 //! answer into (`out`), then the ends, the record, the report, the buffer, the outline's numbers, the text or the floor
-//! (`bytes`). Converting has the buffer in `out`, since it reads a report too; writing a shape has its numbers there, a
+//! (`bytes`). Converting has the buffer in `out`, since it reads a report or a record too; writing a shape has its numbers there, a
 //! floor in pieces its pieces. The stretch is the same whether the library is linked or in a program of its own.
 //! Numbers in it have their low byte first, as x86-64 has them.
 
@@ -14,11 +14,14 @@ use super::floors;
 use super::linked;
 use super::shape_room::ShapeRoom;
 
-/// Room for a star's labels: 32 of seven bytes.
-pub const LABELS: usize = 224;
+/// Room for the labels of a star of so many ends, and of most stars that are asked about: 32 of seven bytes.
+pub const fn room_for(ends: usize) -> usize {
+    7 * ends
+}
+pub const LABELS: usize = room_for(32);
 
 /// What a label lent holds before the call: a byte that no answer has, so that one that isn't written shows.
-const HELD: u8 = 9;
+pub const HELD: u8 = 9;
 const GUARD: usize = 16;
 const GUARD_BYTE: u8 = 0x5A;
 
@@ -40,6 +43,7 @@ pub enum PlanOp {
     OneByOne = 11,
     /// All calls on a floor that comes in pieces.
     Pieces = 12,
+    ConvertRecord = 13,
 }
 
 impl PlanOp {
@@ -59,6 +63,7 @@ impl PlanOp {
             PlanOp::Floor => "misonkandi_floor",
             PlanOp::OneByOne => "misonkandi_record, one by one",
             PlanOp::Pieces => "misonkandi_finish",
+            PlanOp::ConvertRecord => "misonkandi_convert_record",
         }
     }
 }
@@ -67,7 +72,7 @@ impl PlanOp {
 #[derive(Clone, Debug)]
 pub struct PlanCall {
     pub op: PlanOp,
-    /// A label's seven bytes, the 224 of a star's labels, nine cells, the buffer of converting, the room of a shape
+    /// A label's seven bytes, the room for a star's labels, nine cells, the buffer of converting, the room of a shape
     /// that is read, the numbers of one that is written, or the room of a floor and its pieces; as they are before the
     /// call.
     pub out: Vec<u8>,
@@ -90,10 +95,16 @@ impl PlanCall {
         }
     }
 
+    /// Room for 32 labels.
     pub fn star(ends: Vec<u8>, a: u32, b: u32) -> Self {
+        PlanCall::star_in(LABELS, ends, a, b)
+    }
+
+    /// Into so many bytes.
+    pub fn star_in(room: usize, ends: Vec<u8>, a: u32, b: u32) -> Self {
         PlanCall {
             op: PlanOp::Star,
-            out: vec![HELD; LABELS],
+            out: vec![HELD; room],
             a,
             b,
             ..PlanCall::bundle(ends)
@@ -128,6 +139,13 @@ impl PlanCall {
             out: buffer,
             offset,
             ..PlanCall::bundle(report)
+        }
+    }
+
+    pub fn convert_record(record: Vec<u8>, buffer: Vec<u8>, offset: u64) -> Self {
+        PlanCall {
+            op: PlanOp::ConvertRecord,
+            ..PlanCall::convert_report(record, buffer, offset)
         }
     }
 
@@ -262,7 +280,7 @@ pub(super) fn answer(call: &PlanCall) -> PlanReply {
         let word = read_wkt(call, &mut lent);
         return reply(call, word, &lent);
     }
-    if call.op >= PlanOp::Floor {
+    if matches!(call.op, PlanOp::Floor | PlanOp::OneByOne | PlanOp::Pieces) {
         let word = floor(call, &mut lent);
         return reply(call, word, &lent);
     }
@@ -272,7 +290,7 @@ pub(super) fn answer(call: &PlanCall) -> PlanReply {
     let offset = usize::try_from(call.offset).expect("as wide as an offset there");
     let word = match call.op {
         PlanOp::Bundle => linked::bundle(bytes, out.try_into().expect("seven")),
-        PlanOp::Star => linked::star(bytes, call.a, call.b, out.try_into().expect("224")),
+        PlanOp::Star => linked::star(bytes, call.a, call.b, out),
         PlanOp::Record => linked::record(out.try_into().expect("nine"), bytes),
         PlanOp::ReadReport => linked::read_report(out.try_into().expect("nine"), bytes),
         PlanOp::WriteReport => {
@@ -282,6 +300,7 @@ pub(super) fn answer(call: &PlanCall) -> PlanReply {
             linked::write_short_report((&*out).try_into().expect("nine"), bytes, offset)
         }
         PlanOp::ConvertReport => linked::convert_report(bytes, out, offset),
+        PlanOp::ConvertRecord => linked::convert_record(bytes, out, offset),
         PlanOp::WriteWkt => linked::write_wkt(call.a, &numbers(out), bytes, offset),
         PlanOp::PointInOutline
         | PlanOp::ReadWkt

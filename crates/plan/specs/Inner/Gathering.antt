@@ -8,11 +8,13 @@ use lib.ListN.{length, take}
 use Rattle.de9im.specs.declared.answer.Checked.{Checked}
 use Rattle.de9im.specs.declared.answer.Checked.the-variants.{Fine, Refused}
 use Rattle.ends.specs.declared.«edge_end».EdgeEnd.{EdgeEnd}
+use Rattle.ends.specs.Bundle.{joinOf}
 use Rattle.ends.specs.Every.{All, GoodEnd}
 use Rattle.bundles.specs.Columns.{Columns}
-use Rattle.bundles.specs.Shown.{Bundles}
+use Rattle.bundles.specs.Shown.{shownWord, Bundles}
 use Rattle.bundles.specs.Square.{Sums}
 use Rattle.frame.specs.Read.{good, bad}
+use Rattle.plan.specs.declared.«node_ends».JoinedEnds.{JoinedEnds}
 use Rattle.plan.specs.declared.«node_ends».NodeEnds.{NodeEnds}
 use Rattle.plan.specs.EndBytes.{Ends, readEnds}
 
@@ -42,6 +44,10 @@ abbrev pub ReadBy : Checked → (List EdgeEnd → Type 0) → ℕ → List ℕ �
 ReadBy Fine K n s at = AllRead K n s at
 ReadBy (Refused r) K n s at = readEnds n s at ≡ bad r
 
+-- all of them joined, as the number of one bundle
+abbrev pub JoinedRead : ℕ → List ℕ → ℕ → JoinedEnds → Type 0
+JoinedRead n s at r = ReadBy (r .answer) (λ es. shownWord (r .word) ≡ joinOf es) n s at
+
 abbrev pub ColumnsRead : ℕ → List ℕ → ℕ → Checked → List ℤ → List ℤ → List ℕ → List ℕ → Type 0
 ColumnsRead n s at c xs ys marks words = ReadBy c (Kept xs ys marks words) n s at
 
@@ -53,5 +59,5 @@ GatheredBy (Refused q) (good es) k out = ⊥
 GatheredBy (Refused q) (bad r) k out = q ≡ r
 
 pub record Gathered (x : Ends) (r : NodeEnds) (out : List ℕ) : Type 0 where
-  pub few : r .count ≤ 32
+  pub few : r .count ≤ length out
   pub by : GatheredBy (r .answer) x (r .count) out

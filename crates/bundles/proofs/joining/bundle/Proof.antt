@@ -2,12 +2,13 @@
 use borrow.Author.Needs.{needs}
 use native.Mathlib.Omega.{arith}
 use Prim.Native.Nat.{ℕ, zero, suc, _≤_, _<_, _+_, _-_}
-use mathlib.Core.Path.{_≡_, refl, sym, ap, subst, _∙_}
-use mathlib.Core.Bool.{Bool, true, false, cond}
+use mathlib.Core.Path.{_≡_, refl, ap, _∙_}
+use mathlib.Core.Bool.{false}
 use mathlib.Core.List.{_++_}
 use lib.ListN.{length, take, drop, getD, length-set}
 use Rattle.bundles.specs.Columns.{Marked, bundleWords}
 use Rattle.ends.proofs.LawsOrder.{all-at}
+use Rattle.order.proofs.LawsWords.{key-apart}
 use Rattle.bundles.proofs.LawsBundle.{fromWord, bundle-start, bundle-none, bundle-step, bundle-end}
 use Rattle.bundles.proofs.joining.bundle.Statement.{statement}
 use Rattle.bundles.proofs.joining.bundle.Tie as tie
@@ -23,10 +24,6 @@ abbrev μ-loop : tie.MeasureT-loop
 ne-zero : (n : ℕ) → (n ≡ 0 → ⊥) → 0 < n
 ne-zero zero f = absurd (f refl)
 ne-zero (suc n) f = omega arith
-
-either : (P : ℕ → Type 0) (a b : ℕ) (t : Bool) → P a → P b → P (cond t a b)
-either P a b true p q = p
-either P a b false p q = q
 
 returns : tie.Need-returns Inv-loop μ-loop
 returns c =
@@ -61,34 +58,52 @@ mark-at-requires-2 c κs =
 
 same-requires : tie.Need-same-requires Inv-loop μ-loop
 same-requires c κs =
-    let s = c .before .before .before .before .before .before .before .before .before .before in
-    let l = c .before .before .before .loop in
+    let s = c .before .before .before .before .before .before .before .before .before .before .before in
+    let l = c .before .before .before .before .loop in
     let m = all-at 0 (s .pre .0) (l .i) (omega arith) in
     (l .inv .3 .word, m .word)
 
+-- a word of another key
 loop-again : tie.Need-loop-again Inv-loop μ-loop
 loop-again c =
+    let s = c .before .before .before .before .before .before .before .before .before .before .before in
+    let l = c .before .before .before .before .loop in
+    let h : l .i < length (s .args .words .now) = omega arith in
+    let k : l .count < length (l .out) = omega (arith, s .pre .1) in
+    let x = getD (s .args .words .now) (l .i) 0 in
+    let m = all-at 0 (s .pre .0) (l .i) h in (
+      omega arith,
+      omega arith,
+      length-set (l .out) (l .count) (l .t) ∙ l .inv .2,
+      m,
+      rw (c .before .mark-at2 .ensures)
+          (bundle-step (s .args .xs .now) (s .args .ys .now) (s .args .marks .now) (l .out) (s .args .words .now) (l .count) (l .i) (l .w)
+          (l .t) h k (l .inv .3 .word .good) (m .word .good) false
+          (key-apart (s .args .xs .now) (s .args .ys .now) (l .w) x (l .inv .3 .word) (m .word) (c .if2 .taken))) ∙ l .inv .4,
+    )
+
+-- and of the same
+loop-again-2 : tie.Need-loop-again-2 Inv-loop μ-loop
+loop-again-2 c =
     let s = c .before .before .before .before .before .before .before .before .before .before .before .before .before .before .before in
     let l = c .before .before .before .before .before .before .before .before .loop in
     let h : l .i < length (s .args .words .now) = omega arith in
     let k : l .count < length (l .out) = omega (arith, s .pre .1) in
-    let x = getD (s .args .words .now) (l .i) 0 in
-    let M = Marked (s .args .xs .now) (s .args .ys .now) (s .args .marks .now) in
-    let b = c .before .before .before in
+    let m = all-at 0 (s .pre .0) (l .i) h in
+    let b = c .before .before in
     let v = b .before .same .result in (
       omega arith,
       omega (arith, b .one .ensures .1),
       length-set (l .out) (l .count) (l .t) ∙ l .inv .2,
-      subst M (sym (c .pick2 .ensures)) (either M (l .w) x v (l .inv .3) (all-at 0 (s .pre .0) (l .i) h)),
+      m,
       rw (
         b .one .ensures .0,
-        c .pick2 .ensures,
-        c .before .pick .ensures,
-        c .before .before .join .ensures,
-        b .before .before .mark-at2 .ensures,
+        c .pick .ensures,
+        c .before .join .ensures,
+        b .before .before .before .mark-at2 .ensures,
       )
           (bundle-step (s .args .xs .now) (s .args .ys .now) (s .args .marks .now) (l .out) (s .args .words .now) (l .count) (l .i) (l .w)
-          (l .t) h k v (b .before .same .ensures)) ∙ l .inv .4,
+          (l .t) h k (l .inv .3 .word .good) (m .word .good) v (b .before .same .ensures)) ∙ l .inv .4,
     )
 
 returns-2 : tie.Need-returns-2 Inv-loop μ-loop
@@ -113,17 +128,19 @@ bundle-spec =
     (λ c. search needs)
     (λ c. search needs)
     mark-at-requires-2
-    same-requires
     (λ c. search needs)
     (λ c. search needs)
-    (λ c κs. search needs)
     (λ c. search needs)
-    (λ c κs. search needs)
-    (λ c κs. search needs)
-    (λ c κs. search needs)
     (λ c. search needs)
     (λ c. search needs)
     loop-again
+    same-requires
+    (λ c κs. search needs)
+    (λ c. search needs)
+    (λ c κs. search needs)
+    (λ c κs. search needs)
+    (λ c. search needs)
+    loop-again-2
     (λ c. search needs)
     (λ c. search needs)
     (λ c. search needs)

@@ -1,10 +1,23 @@
--- Straight down: each call is its definition.
+-- Straight down: each call is its definition, and of two words of one key the turn is the order.
 use borrow.Author.Needs.{needs}
+use mathlib.Core.Path.{ap}
+use Rattle.ends.specs.Direction.{isSame}
+use Rattle.order.proofs.LawsWords.{tied}
 use Rattle.bundles.proofs.joining.same_tied.Statement.{statement}
 use Rattle.bundles.proofs.joining.same_tied.Tie as tie
 
 returns : tie.Need-returns
-returns c = cc
+returns c =
+    let s = c .before .before .before .before .before .before in
+    rw (
+      c .is-same .ensures,
+      c .before .turn .ensures,
+      c .before .before .dir-at2 .ensures,
+      c .before .before .before .dir-at .ensures,
+      c .before .before .before .before .place2 .ensures,
+      c .before .before .before .before .before .place .ensures,
+    )
+    (ap isSame (tied (s .args .xs .now) (s .args .ys .now) (s .args .v) (s .args .w) (s .pre .0) (s .pre .1) (s .pre .2)))
 
 pub same-tied-spec : {M : Type 1} → statement M
 same-tied-spec =

@@ -5,6 +5,7 @@ use Prim.Native.Nat.{_≤_, _-_}
 use mathlib.Core.Path.{_≡_, refl, sym, _∙_}
 use lib.ListN.{length}
 use borrow.Author.Tests.{lt-ltb, le-ltb}
+use Rattle.ends.specs.Count.{mostEnds}
 use Rattle.ends.specs.Ends.{checkedOf}
 use Rattle.ends.proofs.LawsEnds.{faultsFrom, fault-next, fault-here, fault-end}
 use Rattle.ends.proofs.edge_end.check.Statement.{statement}
@@ -30,7 +31,7 @@ returns-2 c =
     let b = c .before .before .before .before .before .before .before in
     let f = c .before .before .fault in
     let g = c .enum-told2 .given in
-    let len : length (b .args .t1) ≡ 32 = search needs in
+    let len : length (b .args .t1) ≡ mostEnds = search needs in
     simp (le-ltb _ _ (c .before .before .before .before .before .before .if1 .left))
     (g .1 ∙ sym (l .inv .1 ∙ fault-here (b .args .t1) (b .args .count) (l .i) (omega arith) (omega arith) (g .0 .0)
     (sym (f .ensures) ∙ g .1)))
@@ -39,7 +40,7 @@ loop-again : tie.Need-loop-again Inv-loop μ-loop
 loop-again c =
     let l = c .before .before .before .before .before .loop in
     let b = c .before .before .before .before .before .before .before in
-    let len : length (b .args .t1) ≡ 32 = search needs in (
+    let len : length (b .args .t1) ≡ mostEnds = search needs in (
       omega arith,
       l .inv .1 ∙ fault-next (b .args .t1) (b .args .count) (l .i) (omega arith) (omega arith)
           (sym (c .before .before .fault .ensures) ∙ c .enum-told .given .1),
@@ -50,7 +51,7 @@ unfolding checkedOf
 returns-3 c =
     let l = c .before .loop in
     let b = c .before .before .before in
-    let len : length (b .args .t1) ≡ 32 = search needs in
+    let len : length (b .args .t1) ≡ mostEnds = search needs in
     simp (le-ltb _ _ (c .before .before .if1 .left)) (sym (l .inv .1 ∙ fault-end (b .args .t1) (b .args .count) (l .i) (omega arith)
     (omega arith)))
 

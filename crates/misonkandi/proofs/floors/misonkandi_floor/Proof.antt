@@ -1,7 +1,7 @@
 -- The floor's own answer, put where it belongs; no refusal of a floor has a place. Assumes nothing.
 use borrow.Author.Needs.{needs}
 use mathlib.Core.Path.{_≡_}
-use Rattle.pieces.proofs.LawsLent.{floor-nowhere}
+use Rattle.pieces.proofs.LawsStop.{floor-nowhere}
 use Rattle.misonkandi.proofs.LawsFit.{none-below}
 use Rattle.misonkandi.proofs.floors.misonkandi_floor.Statement.{statement}
 use Rattle.misonkandi.proofs.floors.misonkandi_floor.Tie as tie

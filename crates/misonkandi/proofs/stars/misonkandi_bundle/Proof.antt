@@ -1,49 +1,20 @@
--- The bytes say which ends there are, or why not; a call on the array of them is a call on the list.
 use borrow.Author.Needs.{needs}
-use native.Mathlib.Omega.{arith}
-use mathlib.Core.Path.{_≡_, refl, _∙_}
-use Prim.Native.Nat.{_/_, _≤_}
-use lib.ListN.{length, take}
-use Rattle.star.proofs.LawsNumbers.{bundle-place}
-use Rattle.plan.specs.EndBytes.{endsCall, good, bad}
-use Rattle.plan.proofs.LawsEnds.{call-read, call-list}
+use Rattle.labels.proofs.LawsCalls.{bundle-nowhere}
 use Rattle.misonkandi.proofs.LawsFit.{none-below}
-use Rattle.misonkandi.proofs.LawsStars.{ends-near, bundled-front}
 use Rattle.misonkandi.proofs.stars.misonkandi_bundle.Statement.{statement}
 use Rattle.misonkandi.proofs.stars.misonkandi_bundle.Tie as tie
 
-checked-word-requires : tie.Need-checked-word-requires
-checked-word-requires c κs =
-    let f = c .before .before .before .read-ends in
-    ends-near _ (f .result .answer) _ (call-list _ _ (f .ensures) .0)
+put-bundle-requires : tie.Need-put-bundle-requires
+put-bundle-requires c κs = rw (c .before .bundle-bytes .ensures) (none-below _ (bundle-nowhere
+    (c .before .before .before .args .ends .now)))
 
 returns : tie.Need-returns
-returns c =
-    let f = c .before .before .before .before .read-ends in
-    let t = c .before .before .before .before .before .before .args .ends .now in
-    let l = call-list t _ (f .ensures) in
-    let e : endsCall t ≡ bad (c .before .enum-told2 .given .0 .0) = l .0 ∙ simp (c .before .enum-told2 .given .1) in
-    rw e (c .checked-word .ensures ∙ simp (c .before .enum-told2 .given .1), refl)
-
-returns-2 : tie.Need-returns-2
-returns-2 c =
-    let f = c .before .before .before .before .before .before .read-ends in
-    let t = c .before .before .before .before .before .before .before .before .args .ends .now in
-    let n = length t / 15 in
-    let l = call-list t _ (f .ensures) in
-    let e : endsCall t ≡ good (take n (f .result .ends)) = l .0 ∙ simp (c .before .before .before .enum-told .given .1) in
-    let h : n ≤ length (f .result .ends) = omega (arith, call-read t (take n (f .result .ends)) e .0, l .1) in
-    rw (e, bundled-front (f .result .ends) n h, ← c .before .before .bundle .ensures) (c .put-bundle .ensures)
+returns c = rw (c .before .before .bundle-bytes .ensures) at (c .put-bundle .ensures)
 
 pub misonkandi-bundle-spec : {M : Type 1} → statement M
 misonkandi-bundle-spec =
     tie.close
     (tie.spec
     (λ c κs. search needs)
-    (λ c. search needs)
-    (λ c. search needs)
-    checked-word-requires
-    returns
-    (λ c κs. search needs)
-    (λ c κs. rw (c .before .bundle .ensures) (none-below _ (bundle-place _ _)))
-    returns-2)
+    put-bundle-requires
+    returns)

@@ -17,22 +17,25 @@ used-most : (ns bytes : List ℕ) (f : FloorAnswer) → f ≡ floorOf ns bytes �
 used-most ns bytes f e = rw e (floor-used ns bytes)
 
 sub-count : tie.Need-sub-count
-sub-count c = let s = c .before .before .before .args in used-most (s .before .cells) (now (s .chunk)) _ (c .floor .ensures)
+sub-count c =
+    let s = c .before .before .before .before .args in
+    used-most (s .before .cells) (now (s .chunk)) _ (c .floor .ensures)
 
-part-laid-end : tie.Need-part-laid-end
-part-laid-end c =
-    let s = c .before .before .before .before .before .before .args in
-    let h = used-most (s .before .cells) (now (s .chunk)) _ (c .before .before .before .floor .ensures) in
+part-lay-end : tie.Need-part-lay-end
+part-lay-end c =
+    let f = c .before .before in
+    let s = f .before .before .before .before .args in
+    let h = used-most (s .before .cells) (now (s .chunk)) _ (f .floor .ensures) in
     search needs
 
 returns : tie.Need-returns
 returns c =
-    let s = c .before .before .before .before .before .before .before .before .args in
-    let f = c .before .before .before .before .before .floor in
-    let a = c .before .before .before .after in
-    fed-feed (s .before) (f .result) (a .result) (now (s .chunk)) (c .laid .result) (c .before .before .blank .result)
-    (c .before .before .before .before .least .result) (f .ensures) (a .ensures) (c .before .before .before .before .least .ensures)
-    (search needs) (c .laid .ensures)
+    let l = c .before .before .before in
+    let e = l .before .before .before in
+    let f = e .before .floor in
+    let s = e .before .before .before .before .before .args in
+    fed-feed (s .before) (f .result) (c .after .result) (now (s .chunk)) (now (s .held)) (l .lay .last .0) (e .least .result) (f .ensures)
+    (c .after .ensures) (e .least .ensures) (search needs) (l .lay .ensures)
 
 pub feed-spec : {M : Type 1} → statement M
 feed-spec =
@@ -42,10 +45,10 @@ feed-spec =
     sub-count
     (λ c κs. search needs)
     (λ c. search needs)
+    (λ c. search needs)
+    (λ c. search needs)
+    part-lay-end
     (λ c κs. search needs)
     (λ c κs. search needs)
     (λ c. search needs)
-    (λ c. search needs)
-    part-laid-end
-    (λ c κs. search needs)
     returns)

@@ -11,7 +11,7 @@ use lib.Seq.{length-take-le}
 use Rattle.plan.specs.declared.floor.FloorAnswer.{FloorAnswer}
 use Rattle.plan.specs.Floor.{floorOf}
 use Rattle.plan.proofs.LawsFloor.{floor-used}
-use Rattle.pieces.specs.declared.pieces.State.{State}
+use Rattle.pieces.specs.State.{frontSize}
 use Rattle.pieces.specs.Inner.Joining.{added, waiting, Fed}
 use Rattle.pieces.proofs.LawsLists.{to-end}
 use Rattle.pieces.proofs.LawsFed.{fed-past, fed-waiting}
@@ -22,40 +22,47 @@ use Rattle.pieces.proofs.joining.join.Tie as tie
 used-most : (ns held : List ℕ) (n : ℕ) (f : FloorAnswer) → f ≡ floorOf ns (take n held) → f .used ≤ n
 used-most ns held n f e = let h = floor-used ns (take n held) in rw e (omega (arith, length-take n held))
 
-slice-aggregate-laid : tie.Need-slice-aggregate-laid
-slice-aggregate-laid c = sym (length-take-le _ _ (omega (arith, c .before .least2 .ensures)))
+slice-aggregate-lay : tie.Need-slice-aggregate-lay
+slice-aggregate-lay c = sym (length-take-le _ _ (omega (arith, c .before .before .least2 .ensures)))
 
-laid-requires : tie.Need-laid-requires
-laid-requires c κs =
+lay-requires : tie.Need-lay-requires
+lay-requires c κs =
+    let m = c .before .before in
+    let s = m .before .before .before .before .before in
     omega (
       arith,
-      c .before .least2 .ensures,
-      c .before .before .least .ensures,
-      length-take (c .before .least2 .result) (now (c .before .before .before .before .before .before .args .chunk)),
+      m .least2 .ensures,
+      m .before .least .ensures,
+      s .pre,
+      length-take (m .least2 .result) (now (s .args .chunk)),
     )
 
 slice-aggregate-floor : tie.Need-slice-aggregate-floor
 slice-aggregate-floor c =
-    let l = c .before .before .before .before .before .least .ensures in
-    let m = c .before .before .before .before .least2 .ensures in
-    let z : length (c .before .before .laid .result) ≡ 490 = search needs in
-    sym (length-take-le _ (c .before .before .laid .result) (omega (arith, l, m)))
+    let h = c .before .before .before .before in
+    let m = h .before .before .before in
+    let z : length (h .lay .last .0) ≡ frontSize = search needs in
+    sym (length-take-le _ (h .lay .last .0) (omega (arith, m .before .least .ensures, m .least2 .ensures)))
 
 sub-feed : tie.Need-sub-feed
 sub-feed c =
-    let s = c .before .before .before .before .before .before .before .before .before .before .before .before .args in
-    let h = c .before .before .before .before .before in
-    let u = used-most (s .s .floor .cells) (h .laid .result) (h .before .before .before .least .result + h .before .before .least2 .result)
-    (c .before .before .floor .result) (c .before .before .floor .ensures) in
-    omega (arith, u, h .before .before .least2 .ensures)
+    let f = c .before .before .before in
+    let h = f .before .before .before .before .before in
+    let m = h .before .before .before in
+    let s = m .before .before .before .before .before .args in
+    let u = used-most (s .s .floor .cells) (h .lay .last .0) (m .before .least .result + m .least2 .result) (f .floor .result)
+    (f .floor .ensures) in
+    omega (arith, u, m .least2 .ensures)
 
 part-feed-start : tie.Need-part-feed-start
 part-feed-start c =
-    let s = c .before .before .before .before .before .before .before .before .before .before .before .before .args in
-    let h = c .before .before .before .before .before in
-    let u = used-most (s .s .floor .cells) (h .laid .result) (h .before .before .before .least .result + h .before .before .least2 .result)
-    (c .before .before .floor .result) (c .before .before .floor .ensures) in
-    let m = h .before .before .least2 .ensures in
+    let f = c .before .before .before in
+    let h = f .before .before .before .before .before in
+    let m = h .before .before .before in
+    let s = m .before .before .before .before .before .args in
+    let u = used-most (s .s .floor .cells) (h .lay .last .0) (m .before .least .result + m .least2 .result) (f .floor .result)
+    (f .floor .ensures) in
+    let n = m .least2 .ensures in
     search needs
 
 -- the bytes as they were laid
@@ -67,31 +74,40 @@ laid-more new held front at more n e f =
 
 returns : tie.Need-returns
 returns c rest k p =
-    let f = c .before .before .before .before .floor in
-    let i = c .before .before .before .if1 in
-    let h = c .before .before .before .before .before .before .before in
-    let m = h .before .before .least2 in
-    let a = h .before .before .before .least in
-    let s = h .before .before .before .before .before .before .before .args in
+    let d = c .before .before in
+    let a = d .before .before .before in
+    let f = a .before .before in
+    let h = f .before .before .before .before .before in
+    let m = h .before .before .before in
+    let l = m .before .least in
+    let i = m .before .before .before .before .before in
+    let s = i .args in
     let new = now (s .chunk) in
-    let from = f .result .used - a .result in
-    let fed = rw (c .before .before .after .ensures, to-end new from) at (c .feed .ensures) in
-    fed-past rest new (s .s .held) (h .laid .result) (s .s .count) (a .result) (m .result) (k .count) (k .front) (a .ensures)
-    (m .ensures) p (search needs) (laid-more new (h .laid .result) _ (a .result) (m .result) _ (m .ensures) (h .laid .ensures))
-    (s .s .floor) (f .result) (f .ensures) (i .taken) (c .feed .result) fed
+    let held = h .lay .last .0 in
+    let g = f .before .before .before .before in
+    let room : length held ≡ frontSize = omega (arith, g .held .given, i .pre) in
+    let fed = rw (a .after .ensures, to-end new (f .floor .result .used - l .result)) at (d .feed .ensures) in
+    fed-past rest new (now (s .held)) held (s .s .count) (l .result) (m .least2 .result) (k .count) (k .front) (l .ensures)
+    (m .least2 .ensures) p room (laid-more new held _ (l .result) (m .least2 .result) _ (m .least2 .ensures) (h .lay .ensures))
+    (s .s .floor) (f .floor .result) (f .floor .ensures) (a .before .if1 .taken) (d .feed .result) (d .feed .last .1 .0) fed
 
 returns-2 : tie.Need-returns-2
 returns-2 c rest k p =
-    let f = c .before .before .floor in
-    let h = c .before .before .before .before .before in
-    let m = h .before .before .least2 in
-    let a = h .before .before .before .least in
-    let s = h .before .before .before .before .before .before .before .args in
+    let w = c .before .before in
+    let f = w .before .before .before in
+    let h = f .before .before .before .before .before in
+    let m = h .before .before .before in
+    let l = m .before .least in
+    let i = m .before .before .before .before .before in
+    let s = i .args in
     let new = now (s .chunk) in
-    rw (c .wait .ensures)
-    (fed-waiting rest new (s .s .held) (h .laid .result) (s .s .count) (a .result) (m .result) (k .count) (k .front) (a .ensures)
-    (m .ensures) p (search needs) (laid-more new (h .laid .result) _ (a .result) (m .result) _ (m .ensures) (h .laid .ensures))
-    (s .s .floor) (f .result) (f .ensures) (c .before .if1 .left))
+    let held = h .lay .last .0 in
+    let g = f .before .before .before .before in
+    let room : length held ≡ frontSize = omega (arith, g .held .given, i .pre) in
+    rw (w .wait .ensures .0, w .wait .ensures .1)
+    (fed-waiting rest new (now (s .held)) held (s .s .count) (l .result) (m .least2 .result) (k .count) (k .front) (l .ensures)
+    (m .least2 .ensures) p room (laid-more new held _ (l .result) (m .least2 .result) _ (m .least2 .ensures) (h .lay .ensures))
+    (s .s .floor) (f .floor .result) (f .floor .ensures) (w .before .before .if1 .left))
 
 pub join-spec : {M : Type 1} → statement M
 join-spec =
@@ -101,8 +117,8 @@ join-spec =
     (λ c. search needs)
     (λ c κs. search needs)
     (λ c. search needs)
-    slice-aggregate-laid
-    laid-requires
+    slice-aggregate-lay
+    lay-requires
     (λ c. search needs)
     slice-aggregate-floor
     (λ c κs. search needs)
@@ -112,6 +128,8 @@ join-spec =
     part-feed-start
     (λ c. search needs)
     (λ c κs. search needs)
+    (λ c. search needs)
     returns
     (λ c κs. search needs)
+    (λ c. search needs)
     returns-2)

@@ -1,19 +1,33 @@
 -- The branch goes by the direction's test, as the definition does.
 use borrow.Author.Needs.{needs}
+use Rattle.plan.specs.EndBytes.{dirAt}
 use Rattle.plan.specs.Inner.Reading.{endFault}
 use Rattle.plan.proofs.end_bytes.end_fault.Statement.{statement}
 use Rattle.plan.proofs.end_bytes.end_fault.Tie as tie
 
+bad-parts-requires : tie.Need-bad-parts-requires
+bad-parts-requires c κs = record { in-x = c .before .four-bytes-at .ensures .1; in-y = c .four-bytes-at2 .ensures .1 }
+
 returns : tie.Need-returns
-unfolding endFault
+unfolding endFault dirAt
 returns c =
-    let e = rw (c .before .bad-dir .ensures, c .before .before .dir-at .ensures) at (c .if1 .taken) in
+    let b = c .before in
+    let e = rw (
+      b .bad-parts .ensures,
+      b .before .four-bytes-at2 .ensures .0,
+      b .before .before .four-bytes-at .ensures .0,
+    ) at (c .if1 .taken) in
     rw e
 
 returns-2 : tie.Need-returns-2
-unfolding endFault
+unfolding endFault dirAt
 returns-2 c =
-    let e = rw (c .before .before .bad-dir .ensures, c .before .before .before .dir-at .ensures) at (c .before .if1 .left) in
+    let b = c .before .before in
+    let e = rw (
+      b .bad-parts .ensures,
+      b .before .four-bytes-at2 .ensures .0,
+      b .before .before .four-bytes-at .ensures .0,
+    ) at (c .before .if1 .left) in
     rw (e, c .label-fault .ensures)
 
 pub end-fault-spec : {M : Type 1} → statement M
@@ -21,7 +35,9 @@ end-fault-spec =
     tie.close
     (tie.spec
     (λ c κs. search needs)
+    (λ c. search needs)
     (λ c κs. search needs)
+    bad-parts-requires
     returns
     (λ c. search needs)
     (λ c κs. search needs)

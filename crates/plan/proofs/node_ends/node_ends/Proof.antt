@@ -7,6 +7,18 @@ use Rattle.plan.proofs.LawsGathering.{gathered-good}
 use Rattle.plan.proofs.node_ends.node_ends.Statement.{statement}
 use Rattle.plan.proofs.node_ends.node_ends.Tie as tie
 
+no-sums-requires : tie.Need-no-sums-requires
+no-sums-requires c κs = search needs
+
+read-square-requires : tie.Need-read-square-requires
+read-square-requires c κs = search needs
+
+square-bundles-requires : tie.Need-square-bundles-requires
+square-bundles-requires c κs = search needs
+
+same-length : tie.Need-same-length
+same-length c = search needs
+
 returns : tie.Need-returns
 returns c =
     let q = c .before .before .square-bundles .ensures in
@@ -14,19 +26,40 @@ returns c =
     (c .before .before .before .before .before .if1 .taken) in
     let s = c .before .before .before .before .before .before .before .before .before .before .before .args in
     record {
-      few = omega (arith, q .0);
+      few = search needs;
       by = gathered-good (readEnds (s .n) (s .s .now) (s .at)) _ _ _ (a .ends) refl (a .read) (q .1 (a .ends) (a .kept));
     }
+
+ordered-few-requires : tie.Need-ordered-few-requires
+ordered-few-requires c κs = search needs
+
+same-length-2 : tie.Need-same-length-2
+same-length-2 c = search needs
+
+returns-2 : tie.Need-returns-2
+returns-2 c = search needs
+
+ordered-many-requires : tie.Need-ordered-many-requires
+ordered-many-requires c κs = search needs
+
+same-length-3 : tie.Need-same-length-3
+same-length-3 c = search needs
+
+returns-3 : tie.Need-returns-3
+returns-3 c = search needs
 
 pub node-ends-spec : {M : Type 1} → statement M
 node-ends-spec =
     tie.close
     (tie.spec
-    (λ c κs. search needs)
-    (λ c κs. search needs)
-    (λ c κs. search needs)
-    (λ c. search needs)
+    no-sums-requires
+    read-square-requires
+    square-bundles-requires
+    same-length
     returns
-    (λ c κs. search needs)
-    (λ c. search needs)
-    (λ c. search needs))
+    ordered-few-requires
+    same-length-2
+    returns-2
+    ordered-many-requires
+    same-length-3
+    returns-3)

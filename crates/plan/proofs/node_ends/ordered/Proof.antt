@@ -1,6 +1,7 @@
 -- The columns hold the ends that were read, so their bundles are the star's; or the first fault is handed on.
 use borrow.Author.Needs.{needs}
 use native.Mathlib.Omega.{arith}
+use Prim.Native.Nat.{_≤_}
 use mathlib.Core.Path.{_≡_, sym, _∙_}
 use lib.ListN.{length, take}
 use lib.Seq.{length-take-le}
@@ -12,65 +13,69 @@ use Rattle.plan.proofs.node_ends.ordered.Tie as tie
 returns : tie.Need-returns
 returns c =
     let told = c .enum-told2 .given .1 in
-    let r = c .before .before .before .before .before .before .read-columns in
+    let r = c .before .before .before .before .before .before .before .before .read-columns in
     record { few = omega arith; by = gathered-bad _ _ 0 _ _ told (rw told at (r .ensures)) }
 
-slice-aggregate-bundles-4 : tie.Need-slice-aggregate-bundles-4
-slice-aggregate-bundles-4 c =
-    let b = c .before .before .before .before .before .before .before .before .before .before .before .before .before .before
-    .before .before .before in
-    let r = c .before .before .before .before .before .before .before .before .before .before .read-columns in
-    sym (length-take-le (b .args .n) (r .last .1 .1 .1 .1 .1 .1 .0) (search needs))
+slice-aggregate-bundles : tie.Need-slice-aggregate-bundles
+slice-aggregate-bundles c =
+    let b = c .before .before .before .before .before .before .before .before .before .before .before .before .before .before .before
+    .before .before .before .before .before .before .before in
+    sym (length-take-le (b .args .n) _ (search needs))
 
-slice-aggregate-bundles-5 : tie.Need-slice-aggregate-bundles-5
-slice-aggregate-bundles-5 c =
-    let b = c .before .before .before .before .before .before .before .before .before .before .before .before .before .before
-    .before .before .before .before in
-    sym (length-take-le (b .args .n) _ (b .pre .0))
+slice-aggregate-bundles-2 : tie.Need-slice-aggregate-bundles-2
+slice-aggregate-bundles-2 c =
+    let b = c .before .before .before .before .before .before .before .before .before .before .before .before .before .before .before
+    .before .before .before .before .before .before .before .before in
+    sym (length-take-le (b .args .n) _ (search needs))
 
 bundles-requires : tie.Need-bundles-requires
 bundles-requires c κs =
-    let b = c .before .before .before .before .before .before .before .before .before .before .before .before .before .before
-    .before .before .before .before .before in
-    let r = c .before .before .before .before .before .before .before .before .before .before .before .before .read-columns in
+    let b = c .before .before .before .before .before .before .before .before .before .before .before .before .before .before .before
+    .before .before .before .before .before .before .before .before .before in
+    let r = c .before .before .before .before .before .before .before .before .before .before .before .before .before .before
+    .read-columns in
     let told = c .before .before .before .before .before .before .enum-told .given .1 in
-    read-lent (b .args .n) (b .args .s .now) (b .args .at) _ _ _ _ (b .pre .0) (search needs) (rw told at (r .ensures)) _ _
-    (length-take-le (b .args .n) _ (b .pre .0)) (b .pre .2)
+    read-lent (b .args .n) (b .args .s .now) (b .args .at) _ _ _ _ (b .pre .1 .few) (search needs) (rw told at (r .ensures)) _ _
+    (length-take-le (b .args .n) _ (search needs)) (search needs)
 
 returns-2 : tie.Need-returns-2
 returns-2 c =
-    let b = c .before .before .before .before .before .before .before .before .before .before .before .before .before .before
-    .before .before .before .before .before .before .before .before .before .before in
-    let r = c .before .before .before .before .before .before .before .before .before .before .before .before .before .before
-    .before .before .before .read-columns in
-    let k = c .before .before .before .before .bundles in
-    let told = c .before .before .before .before .before .before .before .before .before .before .before .enum-told .given .1 in
+    let b = c .before .before .before .before .before .before .before .before .before .before .before .before .before .before .before
+    .before .before .before .before .before .before .before .before .before .before .before .before .before .before .before .before in
+    let r = c .before .before .before .before .before .before .before .before .before .before .before .before .before .before .before
+    .before .before .before .before .before .before .read-columns in
+    let k = c .before .before .before .before .before .before .bundles in
+    let told = c .before .before .before .before .before .before .before .before .before .before .before .before .before .enum-told
+    .given .1 in
     let a = rw told at (r .ensures) in
+    let few = read-few (b .args .n) (b .args .s .now) (b .args .at) _ _ _ _ (b .pre .1 .few) (search needs) a _ _ (k .ensures) in
     record {
-      few = read-few (b .args .n) (b .args .s .now) (b .args .at) _ _ _ _ (b .pre .0) (search needs) a _ _ (k .ensures);
+      few = search needs;
       by = gathered-good (readEnds (b .args .n) (b .args .s .now) (b .args .at)) _ _ _ (a .ends) told (a .read)
-          (read-bundles (b .args .n) (b .args .s .now) (b .args .at) _ _ _ _ (b .pre .0) (search needs) a _ _ (k .ensures));
+          (read-bundles (b .args .n) (b .args .s .now) (b .args .at) _ _ _ _ (b .pre .1 .few) (search needs) a _ _ (k .ensures));
     }
 
 pub ordered-spec : {M : Type 1} → statement M
 ordered-spec =
     tie.close
     (tie.spec
-    (λ c. search needs)
-    (λ c. search needs)
-    (λ c. search needs)
-    (λ c. search needs)
     (λ c κs. search needs)
+    (λ c. search needs)
+    (λ c. search needs)
+    (λ c. search needs)
+    (λ c. search needs)
     (λ c. search needs)
     (λ c. search needs)
     returns
     (λ c. search needs)
+    slice-aggregate-bundles
     (λ c. search needs)
-    (λ c. search needs)
-    (λ c. search needs)
-    slice-aggregate-bundles-4
-    (λ c. search needs)
-    slice-aggregate-bundles-5
+    slice-aggregate-bundles-2
     bundles-requires
+    (λ c. search needs)
+    (λ c. search needs)
+    (λ c. search needs)
+    (λ c. search needs)
+    (λ c. search needs)
     (λ c. search needs)
     returns-2)

@@ -48,24 +48,15 @@ returns c =
     end-reading (a .s .now) (l .p) ∙ simp (← c .before .before .end-fault .ensures, told) in
     rw told (one-bad (Kept (l .xs) (l .ys) (l .marks) (l .words)) (a .s .now) (a .at) (a .n) (l .i) (l .p) (l .inv .6) _ (omega arith) e)
 
-mark-at-requires : tie.Need-mark-at-requires Inv-loop μ-loop
-mark-at-requires c κs =
-    let l = c .before .before .before .before .before .loop in
-    let b = c .before .before .before .before .before .before .before .before .before in
-    let f : endFault (b .args .s .now) (l .p) ≡ Fine = sym (c .before .before .before .end-fault .ensures) ∙
-    c .before .enum-told .given .1 in
-    (omega (arith, b .pre .0), unfaulted (b .args .s .now) (l .p) f .label-fine)
-
-put-end-requires : tie.Need-put-end-requires Inv-loop μ-loop
-put-end-requires c κs =
-    let l = c .before .before .before .before .before .before .before .before .before .before .loop in
-    let b = c .before .before .before .before .before .before .before .before .before .before .before .before .before .before in
+put-end-at-requires : tie.Need-put-end-at-requires Inv-loop μ-loop
+put-end-at-requires c κs =
+    let l = c .before .before .before .before .before .before .before .before .loop in
+    let b = c .before .before .before .before .before .before .before .before .before .before .before .before in
     let w = b .pre .1 in
-    let d = c .before .before .before .before .before .dir-at in
-    let f : endFault (b .args .s .now) (l .p) ≡
-    Fine = sym (c .before .before .before .before .before .before .before .before .end-fault .ensures) ∙
-    c .before .before .before .before .before .before .enum-told .given .1 in (
-      ap zeroDir (d .ensures) ∙ unfaulted (b .args .s .now) (l .p) f .dir-good,
+    let f : endFault (b .args .s .now) (l .p) ≡ Fine = sym (c .before .before .before .before .before .before .end-fault .ensures) ∙
+    c .before .before .before .before .enum-told .given .1 in (
+      omega (arith, b .pre .0),
+      f,
       record {
         place = omega (arith, w .few);
         in-xs = omega (arith, l .inv .2, w .in-xs);
@@ -77,22 +68,20 @@ put-end-requires c κs =
 
 loop-again : tie.Need-loop-again Inv-loop μ-loop
 loop-again c =
-    let l = c .before .before .before .before .before .before .before .before .before .before .before .before .before .before
-    .before .before .before .loop in
-    let b = c .before .before .before .before .before .before .before .before .before .before .before .before .before .before
-    .before .before .before .before .before .before .before in
+    let l = c .before .before .before .before .before .before .before .before .before .before .before .before .before .before .before
+    .loop in
+    let b = c .before .before .before .before .before .before .before .before .before .before .before .before .before .before .before
+    .before .before .before .before in
     let s = b .args .s .now in
     let w = b .pre .1 in
     let t = c .before .before .before .before .before .before .before .before .before .before .before .before .before .before
-    .before .before .loop-test .taken in
-    let d = c .before .before .before .before .before .before .before .before .before .before .before .before .dir-at in
-    let p = c .before .before .before .before .before .before .put-end .ensures in
-    let f : endFault s (l .p) ≡ Fine = sym (c .before .before .before .before .before .before .before .before .before .before
-    .before .before .before .before .before .end-fault .ensures) ∙
-    c .before .before .before .before .before .before .before .before .before .before .before .before .before .enum-told .given .1 in
+    .loop-test .taken in
+    let p = c .before .before .before .before .before .before .put-end-at .ensures in
+    let f : endFault s (l .p) ≡ Fine = sym (c .before .before .before .before .before .before .before .before .before .before .before
+    .before .before .end-fault .ensures) ∙
+    c .before .before .before .before .before .before .before .before .before .before .before .enum-told .given .1 in
     let u = unfaulted s (l .p) f in
     let e = endRead s (l .p) in
-    let dir : d .result ≡ e .dir = d .ensures ∙ sym (end-dir s (l .p)) in
     let room : Room (l .i) (l .xs) (l .ys) (l .marks) (l .words) = record {
       place = omega (arith, t, w .few);
       in-xs = omega (arith, l .inv .2, t, w .in-xs);
@@ -109,9 +98,7 @@ loop-again c =
       one-read (Kept (l .xs) (l .ys) (l .marks) (l .words)) s (b .args .at) (b .args .n) (l .i) (l .p) (l .inv .6) (Kept _ _ _ _) e
           (omega (arith, t)) (u .end-good)
           (λ es m k. record {
-            columns = columns-more es e (l .i) m (k .columns) room (rw dir at p)
-                (c .before .before .before .before .before .before .before .before .before .before .before .mark-at .ensures ∙
-                end-mark s (l .p));
+            columns = columns-more es e (l .i) m (k .columns) room (rw (sym (end-dir s (l .p))) at p) (end-mark s (l .p));
             good-ends = all-snoc (k .good-ends) (ap zeroDir (end-dir s (l .p)) ∙ u .dir-good);
           }),
     )
@@ -137,10 +124,7 @@ read-columns-spec =
     (λ c. search needs)
     (λ c. search needs)
     returns
-    (λ c κs. search needs)
-    (λ c. search needs)
-    mark-at-requires
-    put-end-requires
+    put-end-at-requires
     (λ c. search needs)
     (λ c. search needs)
     (λ c. search needs)

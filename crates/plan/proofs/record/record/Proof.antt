@@ -1,6 +1,7 @@
 -- Each branch is one step of `saidOf`, and a law of the record order says what the record is there.
 use borrow.Author.Needs.{needs}
 use native.Mathlib.Omega.{arith}
+use borrow.Author.Tests.{not-true, not-false}
 use mathlib.Core.Path.{sym, _∙_}
 use Rattle.plan.proofs.LawsRecordOrder.{no-field, no-body, too-short, other-version, a-node, an-edge, other-kind}
 use Rattle.plan.proofs.record.record.Statement.{statement}
@@ -23,31 +24,34 @@ returns-3 c =
 
 returns-4 : tie.Need-returns-4
 returns-4 c =
-    let s = c .before .before .before .before .before .before .before .before .before .before .args in
-    c .refused4 .ensures ∙ sym (other-version (s .cells) (s .s .now) (omega arith) (omega arith) (omega arith) (c .before .if4 .taken))
+    let s = c .before .before .before .before .before .before .before .before .before .before .before .args in
+    c .refused4 .ensures ∙
+    sym (other-version (s .cells) (s .s .now) (omega arith) (omega arith) (omega arith) (sym
+    (c .before .before .is-version .ensures) ∙ not-true _ (c .before .if4 .taken)))
 
 returns-5 : tie.Need-returns-5
 returns-5 c =
-    let v = c .before .before .before in
-    let s = v .before .before .before .before .before .before .before .before .before .args in
+    let s = c .before .before .before .before .before .before .before .before .before .before .before .before .before .args in
     c .node-record .ensures ∙
-    sym (a-node (s .cells) (s .s .now) (omega arith) (omega arith) (omega arith) (v .if4 .left) (c .before .if5 .taken))
+    sym (a-node (s .cells) (s .s .now) (omega arith) (omega arith) (omega arith) (sym
+    (c .before .before .before .before .is-version .ensures) ∙ not-false _ (c .before .before .before .if4 .left))
+    (c .before .if5 .taken))
 
 returns-6 : tie.Need-returns-6
 returns-6 c =
-    let k = c .before .before in
-    let v = k .before .before in
-    let s = v .before .before .before .before .before .before .before .before .before .args in
+    let s = c .before .before .before .before .before .before .before .before .before .before .before .before .before .before .args in
     c .edge-record .ensures ∙
-    sym (an-edge (s .cells) (s .s .now) (omega arith) (omega arith) (omega arith) (v .if4 .left) (k .if5 .left) (c .before .if6 .taken))
+    sym (an-edge (s .cells) (s .s .now) (omega arith) (omega arith) (omega arith) (sym
+    (c .before .before .before .before .before .is-version .ensures) ∙ not-false _ (c .before .before .before .before .if4 .left))
+    (c .before .before .if5 .left) (c .before .if6 .taken))
 
 returns-7 : tie.Need-returns-7
 returns-7 c =
-    let k = c .before .before in
-    let v = k .before .before in
-    let s = v .before .before .before .before .before .before .before .before .before .args in
+    let s = c .before .before .before .before .before .before .before .before .before .before .before .before .before .before .args in
     c .refused5 .ensures ∙
-    sym (other-kind (s .cells) (s .s .now) (omega arith) (omega arith) (omega arith) (v .if4 .left) (k .if5 .left) (c .before .if6 .left))
+    sym (other-kind (s .cells) (s .s .now) (omega arith) (omega arith) (omega arith) (sym
+    (c .before .before .before .before .before .is-version .ensures) ∙ not-false _ (c .before .before .before .before .if4 .left))
+    (c .before .before .if5 .left) (c .before .if6 .left))
 
 pub record-spec : {M : Type 1} → statement M
 record-spec =
@@ -64,6 +68,7 @@ record-spec =
     (λ c κs. search needs)
     returns-3
     (λ c. search needs)
+    (λ c κs. search needs)
     (λ c κs. search needs)
     returns-4
     (λ c. search needs)

@@ -1,8 +1,9 @@
--- What the check answers decides: refused, no label is read; fine, there are at most 32 ends, so they are joined.
+-- What the check answers decides: refused, no label is read; fine, there are no more ends than a call takes, so they are joined.
 use borrow.Author.Needs.{needs}
 use mathlib.Core.Path.{_≡_, refl, sym, _∙_}
 use lib.ListN.{length}
 use Rattle.star.specs.Calls.{bundledOf}
+use Rattle.ends.specs.Count.{mostEnds}
 use Rattle.ends.proofs.LawsEnds.{checked-sound}
 use Rattle.star.proofs.edge_end_bundle.bundle.Statement.{statement}
 use Rattle.star.proofs.edge_end_bundle.bundle.Tie as tie
@@ -16,7 +17,7 @@ returns c =
 join-ends-requires : tie.Need-join-ends-requires
 join-ends-requires c κs =
     let s = c .before .before .before .args in
-    let len : length (s .ends) ≡ 32 = search needs in
+    let len : length (s .ends) ≡ mostEnds = search needs in
     checked-sound (s .ends) (s .count) len (sym (c .before .before .check .ensures) ∙ c .enum-told .given .1) .few
 
 returns-2 : tie.Need-returns-2

@@ -4,6 +4,7 @@ use native.Mathlib.Omega.{arith}
 use mathlib.Core.Path.{_≡_, sym, _∙_}
 use Prim.Native.Nat.{_≤_, _-_}
 use lib.ListN.{length, take, getD}
+use Rattle.ends.specs.Count.{mostEnds}
 use Rattle.ends.specs.Ends.{noEnd}
 use Rattle.ends.proofs.LawsLists.{take-more}
 use Rattle.bundles.proofs.LawsJoined.{joinedWord, joined-none, joined-more, joined-shows}
@@ -24,7 +25,7 @@ loop-again : tie.Need-loop-again Inv-loop μ-loop
 loop-again c =
     let l = c .before .before .before .before .before .loop in
     let b = c .before .before .before .before .before .before in
-    let len : length (b .args .t1) ≡ 32 = search needs in (
+    let len : length (b .args .t1) ≡ mostEnds = search needs in (
       omega arith,
       c .join .ensures ∙ rw (
         c .before .mark-of .ensures ∙ mark-word (getD (b .args .t1) (l .i) noEnd),

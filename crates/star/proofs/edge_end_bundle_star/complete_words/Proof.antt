@@ -5,6 +5,7 @@ use Prim.Native.Nat.{_≤_, _<_, _-_}
 use mathlib.Core.Path.{_≡_, refl, sym, _∙_}
 use lib.ListN.{length, take}
 use lib.Seq.{length-take-le}
+use Rattle.ends.specs.Count.{mostEnds}
 use Rattle.ends.specs.Label.{blank, padded}
 use Rattle.star.specs.Inner.Places.{labelWord, nextWord, labelsFrom}
 use Rattle.star.specs.Inner.Walking.{scan, after}
@@ -42,7 +43,7 @@ loop-again c =
         l .inv .1,
         l .inv .2,
         scan-more labelWord nextWord (b .args .start) 0 ws (l .i) few,
-      ) (pad-step blank 32 xs _ (l .i) size (omega (arith, few, b .pre .0))),
+      ) (pad-step blank mostEnds xs _ (l .i) size (omega (arith, few, b .pre .0))),
       rw (d, l .inv .2) (sym (after-more nextWord (b .args .start) 0 ws (l .i) few)),
     )
 

@@ -5,6 +5,7 @@ use mathlib.Core.Path.{_≡_, refl, sym, ap, _∙_}
 use Prim.Native.Nat.{_≤_, _<_, _-_}
 use lib.ListN.{length, take, getD, length-set}
 use lib.Seq.{length-take-le}
+use Rattle.ends.specs.Count.{mostEnds}
 use Rattle.ends.specs.Ends.{noEnd}
 use Rattle.ends.proofs.LawsLists.{take-more}
 use Rattle.bundles.specs.Columns.{Columns, Room}
@@ -50,7 +51,7 @@ loop-again c =
     .before .loop-test .taken in
     let ends = b .args .t1 in
     let e = getD ends (l .i) noEnd in
-    let long : length ends ≡ 32 = search needs in
+    let long : length ends ≡ mostEnds = search needs in
     let len : length (take (l .i) ends) ≡ l .i = length-take-le (l .i) ends (omega (arith, long, b .pre .0 .few)) in
     let room : Room (l .i) (l .xs) (l .ys) (l .marks) (l .words) = record {
       place = omega (arith, b .pre .0 .few);

@@ -3,6 +3,7 @@ use borrow.Author.Needs.{needs}
 use mathlib.Core.Path.{_≡_, refl, sym, _∙_}
 use lib.ListN.{length}
 use Rattle.star.specs.Calls.{starCall}
+use Rattle.ends.specs.Count.{mostEnds}
 use Rattle.ends.proofs.LawsEnds.{checked-sound}
 use Rattle.star.proofs.edge_end_bundle_star.star.Statement.{statement}
 use Rattle.star.proofs.edge_end_bundle_star.star.Tie as tie
@@ -16,7 +17,7 @@ returns c =
 star-of-requires : tie.Need-star-of-requires
 star-of-requires c κs =
     let s = c .before .before .before .args in
-    let len : length (s .ends) ≡ 32 = search needs in
+    let len : length (s .ends) ≡ mostEnds = search needs in
     checked-sound (s .ends) (s .count) len (sym (c .before .before .check .ensures) ∙ c .enum-told .given .1)
 
 returns-2 : tie.Need-returns-2

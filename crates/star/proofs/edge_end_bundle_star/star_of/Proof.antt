@@ -4,6 +4,7 @@ use native.Mathlib.Omega.{arith}
 use mathlib.Core.Path.{_≡_, sym, _∙_}
 use lib.ListN.{length, take}
 use lib.Seq.{length-take-le}
+use Rattle.ends.specs.Count.{mostEnds}
 use Rattle.ends.proofs.LawsEnds.{sound-good}
 use Rattle.bundles.proofs.LawsColumns.{columns-cut, columns-lent}
 use Rattle.star.proofs.edge_end_bundle_star.star_of.Statement.{statement}
@@ -26,7 +27,7 @@ bundles-requires c κs =
     let p = c .before .before .before .before .before .before .before .before .before .before .put-ends in
     let n = s .args .n in
     let ends = s .args .ends in
-    let long : length ends ≡ 32 = search needs in
+    let long : length ends ≡ mostEnds = search needs in
     let size : length (take n ends) ≡ n = length-take-le n ends (omega (arith, s .pre .few)) in
     let words : length (take n (p .last .1 .1 .1 .1 .1 .0)) ≡ n = length-take-le n (p .last .1 .1 .1 .1 .1 .0) (search needs) in
     columns-lent (take n ends) _ _ _ _ (columns-cut (take n ends) n size (p .ensures)) (size ∙ sym words)
@@ -53,7 +54,7 @@ returns c =
     .before .before .put-ends in
     let n = s .args .n in
     let ends = s .args .ends in
-    let long : length ends ≡ 32 = search needs in
+    let long : length ends ≡ mostEnds = search needs in
     let size : length (take n ends) ≡ n = length-take-le n ends (omega (arith, s .pre .few)) in
     let words : length (take n (p .last .1 .1 .1 .1 .1 .0)) ≡ n = length-take-le n (p .last .1 .1 .1 .1 .1 .0) (search needs) in
     c .label-bundles .ensures (take n ends)

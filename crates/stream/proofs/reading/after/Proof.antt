@@ -12,27 +12,30 @@ use Rattle.stream.proofs.reading.after.Tie as tie
 
 slice-aggregate-push : tie.Need-slice-aggregate-push
 slice-aggregate-push c =
-    let s = c .before .before .before .before .before in
-    let f = rw (c .before .before .got .given .1) at (s .pre) in
+    let g = c .before .before .before in
+    let s = g .before .before .before in
+    let f = rw (g .got .given .1) at (s .pre) in
     sym (length-take-le _ (now (s .args .buf)) (f .1))
 
 returns : tie.Need-returns
 returns c =
-    let p = c .before .before .push .ensures in
-    rw (c .before .before .before .before .before .got .given .1)
+    let p = c .before .before .before in
+    let g = p .before .before .before .before in
+    rw (g .got .given .1)
     (record {
-      holds = p;
-      next = λ ns bs h. c .next-of .ensures ∙ ap (λ (f : FloorAnswer). nextOf (f .stop)) (c .before .finish .ensures ns _ (p ns bs h));
+      holds = p .push .ensures;
+      next = λ ns bs h.
+          c .next-of .ensures ∙ ap (λ (f : FloorAnswer). nextOf (f .stop)) (c .before .finish .ensures .0 ns _ (p .push .ensures ns bs h));
     })
 
 returns-2 : tie.Need-returns-2
-returns-2 c = rw (c .enum-told .given .1) refl
+returns-2 c = rw (c .enum-told .given .1) (refl, refl)
 
 returns-3 : tie.Need-returns-3
-returns-3 c = rw (c .enum-told2 .given .1) refl
+returns-3 c = rw (c .enum-told2 .given .1) (refl, refl)
 
 returns-4 : tie.Need-returns-4
-returns-4 c = rw (c .enum-told3 .given .1) refl
+returns-4 c = rw (c .enum-told3 .given .1) (refl, refl)
 
 pub after-spec : {M : Type 1} → statement M
 after-spec =

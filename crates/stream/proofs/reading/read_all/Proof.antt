@@ -13,52 +13,55 @@ use Rattle.stream.proofs.reading.read_all.Statement.{statement}
 use Rattle.stream.proofs.reading.read_all.Tie as tie
 
 abbrev Inv-loop : tie.InvT-loop
-Inv-loop fd buf₀ s₀ left₀ buf s left = (65536 ≡ length buf) × Since left s
+Inv-loop fd buf₀ state₀ left₀ buf state left = (65536 ≡ length buf) × Since left state
 
 abbrev μ-loop : tie.MeasureT-loop
-μ-loop fd buf₀ s₀ left₀ buf s left = left
+μ-loop fd buf₀ state₀ left₀ buf state left = left
 
 loop-holds : tie.Need-loop-holds Inv-loop μ-loop
 loop-holds c =
-    let h = subst (λ (ns : List ℕ). Holds ns [] (c .start .result)) (c .before .start-cells .ensures) (c .start .ensures) in
-    (c .before .before .large-buffer .ensures, since-start (c .start .result) mostReads refl h)
+    let s = c .start .last .1 .0 in
+    let h = subst (λ (ns : List ℕ). Holds ns [] s) (c .before .before .start-cells .ensures) (c .start .ensures) in
+    (c .before .before .before .large-buffer .ensures, since-start s mostReads refl h)
 
 loop-again : tie.Need-loop-again Inv-loop μ-loop
 loop-again c =
-    let a = c .before .before .before .after in
-    let q = c .before .before .before .before .before .before .read-once in
-    let t = c .before .before .before .before .before .before .before .before in
+    let a = c .before .before in
+    let q = a .before .before .before .before in
+    let t = q .before .before in
     let l = t .before .loop in (
       search needs,
-      since-goes (l .left) (l .s) (l .inv .1) (t .loop-test .taken) (q .last .1 .0) (q .result) (a .result) (q .ensures)
-          (a .ensures) (c .enum-told .given .1),
+      since-goes (l .left) (l .state) (l .inv .1) (t .loop-test .taken) (q .read-once .last .1 .0) (a .after .result) (a .after .last .0)
+          (q .read-once .result) (q .read-once .ensures) (a .after .ensures) (c .enum-told .given .1),
     )
 
 returns : tie.Need-returns Inv-loop μ-loop
 returns c =
     let f = c .before .finish in
-    let a = c .before .before .before .before .before .after in
-    let q = c .before .before .before .before .before .before .before .before .read-once in
-    let t = c .before .before .before .before .before .before .before .before .before .before in
+    let e = c .before .before .before in
+    let a = e .before .before in
+    let q = a .before .before .before .before in
+    let t = q .before .before in
     let l = t .before .loop in
     rw (c .outcome-of .ensures)
-    (since-done (l .left) (l .s) (l .inv .1) (t .loop-test .taken) (q .last .1 .0) (q .result) (a .result) (f .result) (q .ensures)
-    (a .ensures) (c .before .before .enum-told2 .given .1) (f .ensures))
+    (since-done (l .left) (l .state) (l .inv .1) (t .loop-test .taken) (q .read-once .last .1 .0) (a .after .result) (a .after .last .0)
+    (q .read-once .result) (f .result) (q .read-once .ensures) (a .after .ensures) (e .enum-told2 .given .1) (f .ensures .0))
 
 returns-2 : tie.Need-returns-2 Inv-loop μ-loop
 returns-2 c =
-    let a = c .before .before .before .before .after in
-    let q = c .before .before .before .before .before .before .before .read-once in
-    let t = c .before .before .before .before .before .before .before .before .before in
+    let e = c .before in
+    let a = e .before .before in
+    let q = a .before .before .before .before in
+    let t = q .before .before in
     let l = t .before .loop in
     rw (c .broken .ensures)
-    (since-broken (l .left) (l .s) (l .inv .1) (t .loop-test .taken) (q .last .1 .0) (q .result) (a .result) (q .ensures) (a .ensures)
-    (c .before .enum-told3 .given .1))
+    (since-broken (l .left) (l .state) (l .inv .1) (t .loop-test .taken) (q .read-once .last .1 .0) (a .after .result) (a .after .last .0)
+    (q .read-once .result) (q .read-once .ensures) (a .after .ensures) (e .enum-told3 .given .1))
 
 returns-3 : tie.Need-returns-3 Inv-loop μ-loop
 returns-3 c =
     let l = c .before .before .loop in
-    rw (c .broken2 .ensures) (since-worn (l .left) (l .inv .1) (omega (arith, c .before .loop-test .left)))
+    rw (c .broken2 .ensures) (since-worn (l .state) (l .left) (l .inv .1) (omega (arith, c .before .loop-test .left)))
 
 pub read-all-spec : {M : Type 1} → statement M
 read-all-spec =
