@@ -6,11 +6,12 @@ use native.Mathlib.Omega.{arith}
 use lib.Bits.{bitAnd, bitXor}
 use lib.Dec.{eqb}
 use Rattle.de9im.specs.EighteenBits.{cellIn}
+use Rattle.predicates.proofs.LawsTerms.{four-cases}
 use Rattle.masks.specs.declared.planes.Planes.{Planes}
 use Rattle.masks.specs.Patterns.{plane}
 use Rattle.masks.specs.Engine.{none}
 use Rattle.masks.specs.Inner.Planes.{planesOf}
-use Rattle.masks.proofs.LawsPlanes.{xor, lower, higher, four-cases, plane-same, plane-xor, plane-none, room-and, half-and}
+use Rattle.masks.proofs.LawsPlanes.{xor, lower, higher, plane-same, plane-xor, plane-none, room-and, half-and}
 
 -- the operations of `is_clear`, on words and on a cell's bits
 abbrev pub refusedIn : ℕ → Planes → ℕ

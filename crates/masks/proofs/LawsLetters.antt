@@ -20,16 +20,18 @@ use Rattle.de9im.specs.Patterns.{lettersOf, checkOf}
 use Rattle.de9im.proofs.LawsEighteen.{below-small, cell-of}
 use Rattle.de9im.proofs.LawsForms.{nine-at}
 use Rattle.de9im.proofs.LawsLetters.{accepted-bit}
+use Rattle.predicates.proofs.LawsTerms.{four-cases}
 use Rattle.masks.specs.declared.patterns.Masked.{Masked}
 use Rattle.masks.specs.declared.planes.Planes.{Planes}
-use Rattle.masks.specs.Patterns.{bit, plane, refusedAt, maskOf, masksOf, fourZeros, maskedBy, maskedOf}
+use Rattle.predicates.specs.Eleven.{bitOf}
+use Rattle.masks.specs.Patterns.{plane, refusedAt, maskOf, masksOf, fourZeros, maskedBy, maskedOf}
 use Rattle.masks.specs.Engine.{refuses}
 use Rattle.masks.specs.Inner.Planes.{planesTo, planesOf, leftOut, nextOf, Narrow}
-use Rattle.masks.proofs.LawsPlanes.{bit-small, four-cases, plane-same, plane-next}
+use Rattle.masks.proofs.LawsPlanes.{bit-small, plane-same, plane-next}
 
 plane-small : (b : ℕ → Bool) (k : ℕ) → plane b k < 4 ^ k
 unfolding plane
-plane-small b k = below-small (λ j. bit (b j)) k (λ j. omega (arith, bit-small (b j)))
+plane-small b k = below-small (λ j. bitOf (b j)) k (λ j. omega (arith, bit-small (b j)))
 
 module _ (g : ℕ → ℕ → Bool) (k : ℕ) where
   pub narrow : k < 9 → Narrow (planesTo g k)
@@ -44,7 +46,7 @@ module _ (g : ℕ → ℕ → Bool) (k : ℕ) where
   pub planes-next : (m : Planes) → m ≡ planesTo g k → nextOf m (g k) ≡ planesTo g (k + 1)
   planes-next m e = ap (λ (x : Planes). nextOf x (g k)) e ∙ simp (add-one, plane-next)
 
-odd : (x : Bool) → eqb (bit x % 2) 1 ≡ x
+odd : (x : Bool) → eqb (bitOf x % 2) 1 ≡ x
 odd true = refl
 odd false = refl
 
@@ -75,7 +77,7 @@ module _ (p : List ℕ) where
   mask-at : (k i : ℕ) → k < 9 → eqb (cellIn (maskOf p i) k % 2) 1 ≡ refusedAt p k i
   unfolding plane
   mask-at k i l =
-      ap (λ (x : ℕ). eqb (x % 2) 1) (cell-of 0 (λ j. bit (refusedAt p j i)) 9 (λ j h. omega (arith, bit-small (refusedAt p j i))) k l)
+      ap (λ (x : ℕ). eqb (x % 2) 1) (cell-of 0 (λ j. bitOf (refusedAt p j i)) 9 (λ j h. omega (arith, bit-small (refusedAt p j i))) k l)
       ∙ odd (refusedAt p k i)
 
   pub mask-letter : (k n : ℕ) → k < 9 → n < 4 → refuses (masksOf p) k n ≡ refusedAt p k n

@@ -9,47 +9,49 @@ use lib.Dec.{eqb}
 use Rattle.de9im.specs.EighteenBits.{below, cellIn}
 use Rattle.de9im.proofs.LawsBool.{told}
 use Rattle.de9im.proofs.LawsEighteen.{below-same, below-small, split}
-use Rattle.masks.specs.Patterns.{bit, plane}
+use Rattle.predicates.specs.Eleven.{bitOf}
+use Rattle.predicates.proofs.LawsTerms.{four-cases}
+use Rattle.masks.specs.Patterns.{plane}
 use Rattle.masks.specs.Engine.{none}
 
-pub bit-small : (b : Bool) → bit b < 2
+pub bit-small : (b : Bool) → bitOf b < 2
 bit-small true = omega arith
 bit-small false = omega arith
 
 pub plane-same : (b c : ℕ → Bool) (k : ℕ) → ((j : ℕ) → j < k → b j ≡ c j) → plane b k ≡ plane c k
 unfolding plane
-plane-same b c k h = below-same 0 (λ j. bit (b j)) (λ j. bit (c j)) k (λ j l. ap bit (h j l))
+plane-same b c k h = below-same 0 (λ j. bitOf (b j)) (λ j. bitOf (c j)) k (λ j l. ap bitOf (h j l))
 
-pub plane-next : (b : ℕ → Bool) (k : ℕ) → plane b (suc k) ≡ plane b k * 4 + bit (b k)
+pub plane-next : (b : ℕ → Bool) (k : ℕ) → plane b (suc k) ≡ plane b k * 4 + bitOf (b k)
 unfolding plane below
 plane-next b k = refl
 
 -- an operation on masks is one on each of their bits
 module _ (op : ℕ → ℕ → ℕ) (o : Bool → Bool → Bool)
     (block : (k a b r s : ℕ) → r < 2 ^ k → s < 2 ^ k → op (a * 2 ^ k + r) (b * 2 ^ k + s) ≡ op a b * 2 ^ k + op r s)
-    (none : op 0 0 ≡ 0) (bits : (x y : Bool) → op (bit x) (bit y) ≡ bit (o x y)) where
+    (none : op 0 0 ≡ 0) (bits : (x y : Bool) → op (bitOf x) (bitOf y) ≡ bitOf (o x y)) where
   plane-op : (b c : ℕ → Bool) (k : ℕ) → op (plane b k) (plane c k) ≡ plane (λ j. o (b j) (c j)) k
   unfolding plane below
   plane-op b c zero = none
   plane-op b c (suc k) =
-      block 2 (plane b k) (plane c k) (bit (b k)) (bit (c k)) (omega (arith, bit-small (b k))) (omega (arith, bit-small (c k)))
+      block 2 (plane b k) (plane c k) (bitOf (b k)) (bitOf (c k)) (omega (arith, bit-small (b k))) (omega (arith, bit-small (c k)))
       ∙ ap₂ (λ (x y : ℕ). x * 4 + y) (plane-op b c k) (bits (b k) (c k))
 
 abbrev pub xor : Bool → Bool → Bool
 xor false y = y
 xor true y = not y
 
-and-bits : (x y : Bool) → bitAnd (bit x) (bit y) ≡ bit (x && y)
+and-bits : (x y : Bool) → bitAnd (bitOf x) (bitOf y) ≡ bitOf (x && y)
 and-bits true true = refl
 and-bits true false = refl
 and-bits false y = refl
 
-or-bits : (x y : Bool) → bitOr (bit x) (bit y) ≡ bit (x || y)
+or-bits : (x y : Bool) → bitOr (bitOf x) (bitOf y) ≡ bitOf (x || y)
 or-bits true true = refl
 or-bits true false = refl
 or-bits false y = refl
 
-xor-bits : (x y : Bool) → bitXor (bit x) (bit y) ≡ bit (xor x y)
+xor-bits : (x y : Bool) → bitXor (bitOf x) (bitOf y) ≡ bitOf (xor x y)
 xor-bits true true = refl
 xor-bits true false = refl
 xor-bits false y = refl
@@ -63,14 +65,6 @@ plane-or = plane-op bitOr _||_ or-block refl or-bits
 pub plane-xor : (b c : ℕ → Bool) (k : ℕ) → bitXor (plane b k) (plane c k) ≡ plane (λ j. xor (b j) (c j)) k
 plane-xor = plane-op bitXor xor xor-block refl xor-bits
 
--- what holds of the four numbers of a cell
-pub four-cases : (P : ℕ → Type 0) → P 0 → P 1 → P 2 → P 3 → (n : ℕ) → n < 4 → P n
-four-cases P a b c d zero h = a
-four-cases P a b c d (suc zero) h = b
-four-cases P a b c d (suc (suc zero)) h = c
-four-cases P a b c d (suc (suc (suc zero))) h = d
-four-cases P a b c d (suc (suc (suc (suc n)))) h = absurd (omega arith)
-
 -- the two bits of a number
 abbrev pub lower : ℕ → Bool
 lower n = eqb (n % 2) 1
@@ -78,9 +72,9 @@ lower n = eqb (n % 2) 1
 abbrev pub higher : ℕ → Bool
 higher n = eqb (n / 2) 1
 
-cell-and : (c : Bool) (n : ℕ) → n < 4 → bitAnd n (bit c) ≡ bit (lower n && c)
-cell-and true = four-cases (λ n. bitAnd n 1 ≡ bit (lower n && true)) refl refl refl refl
-cell-and false = four-cases (λ n. bitAnd n 0 ≡ bit (lower n && false)) refl refl refl refl
+cell-and : (c : Bool) (n : ℕ) → n < 4 → bitAnd n (bitOf c) ≡ bitOf (lower n && c)
+cell-and true = four-cases (λ n. bitAnd n 1 ≡ bitOf (lower n && true)) refl refl refl refl
+cell-and false = four-cases (λ n. bitAnd n 0 ≡ bitOf (lower n && false)) refl refl refl refl
 
 -- a mask over a word of cells keeps the lower bit of each, and over half the word the higher
 module _ (a : ℕ) (f : ℕ → ℕ) (small : (j : ℕ) → f j < 4) (c : ℕ → Bool) where
@@ -88,7 +82,7 @@ module _ (a : ℕ) (f : ℕ → ℕ) (small : (j : ℕ) → f j < 4) (c : ℕ �
   unfolding plane below
   below-and zero = and-zero-r a
   below-and (suc k) =
-      and-block 2 (below a f k) (plane c k) (f k) (bit (c k)) (small k) (omega (arith, bit-small (c k)))
+      and-block 2 (below a f k) (plane c k) (f k) (bitOf (c k)) (small k) (omega (arith, bit-small (c k)))
       ∙ ap₂ (λ (x y : ℕ). x * 4 + y) (below-and k) (cell-and (c k) (f k) (small k))
 
   half-below-and : (k : ℕ) → bitAnd (below a f k / 2) (plane c k) ≡ plane (λ j. higher (f j) && c j) k
@@ -101,8 +95,8 @@ module _ (a : ℕ) (f : ℕ → ℕ) (small : (j : ℕ) → f j < 4) (c : ℕ �
       let e : (w * 4 + f k) / 2 ≡ w / 2 * 4 + r = omega arith in
       let h : r % 2 ≡ f k / 2 = omega (arith, small k) in
       ap (λ (x : ℕ). bitAnd x (plane c (suc k))) e
-      ∙ and-block 2 (w / 2) (plane c k) r (bit (c k)) l (omega (arith, bit-small (c k)))
-      ∙ ap₂ (λ (x y : ℕ). x * 4 + y) (half-below-and k) (cell-and (c k) r l ∙ ap (λ (x : ℕ). bit (eqb x 1 && c k)) h)
+      ∙ and-block 2 (w / 2) (plane c k) r (bitOf (c k)) l (omega (arith, bit-small (c k)))
+      ∙ ap₂ (λ (x y : ℕ). x * 4 + y) (half-below-and k) (cell-and (c k) r l ∙ ap (λ (x : ℕ). bitOf (eqb x 1 && c k)) h)
 
 module _ (room : ℕ) (c : ℕ → Bool) where
   small : (j : ℕ) → cellIn room j < 4
@@ -122,7 +116,7 @@ lower-only w =
     ∙ plane-same (λ k. lower (cellIn w k) && true) (λ k. lower (cellIn w k)) 9 (λ k l. and-true (lower (cellIn w k)))
 
 -- a mask is 0 exactly if no cell's bit is set
-none-more : (n : ℕ) (x : Bool) → eqb (n * 4 + bit x) 0 ≡ (eqb n 0 && not x)
+none-more : (n : ℕ) (x : Bool) → eqb (n * 4 + bitOf x) 0 ≡ (eqb n 0 && not x)
 none-more n true = ne-eqb (n * 4 + 1) 0 (λ e. omega (arith, e)) ∙ rw (and-false (eqb n 0)) refl
 none-more n false =
     told (eqb n 0) (λ t. eq-eqb (n * 4 + 0) 0 (omega (arith, eqb-true n 0 t)) ∙ simp t)

@@ -28,7 +28,7 @@ use Rattle.verdict.specs.Inner.Table.{reachOf, firmOf, letterPasses, every}
 use Rattle.verdict.proofs.LawsPattern.{every-each, each-every, says-yes, pattern-sound}
 use Rattle.masks.specs.Patterns.{refusedAt, masksOf, maskedBy, maskedOf}
 use Rattle.masks.specs.Engine.{refuses, none, matchIn, upwards, hopeIn, firmIn, verdictIn}
-use Rattle.masks.proofs.LawsPlanes.{four-cases}
+use Rattle.predicates.proofs.LawsTerms.{four-cases}
 use Rattle.masks.proofs.LawsLetters.{mask-letter}
 
 -- a test that holds in none of k cells, cell by cell

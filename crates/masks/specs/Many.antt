@@ -8,21 +8,15 @@ use lib.ListN.{length, drop}
 use Rattle.de9im.specs.declared.answer.Checked.{Checked}
 use Rattle.de9im.specs.declared.answer.Checked.the-variants.{Fine, Refused}
 use Rattle.de9im.specs.declared.refusal.Refusal.the-variants.{NoRoom}
-use Rattle.verdict.specs.declared.Verdict.{Verdict}
-use Rattle.verdict.specs.declared.Verdict.the-variants.{YesForGood, NoForGood, Open}
-use Rattle.masks.specs.Patterns.{bit}
+use Rattle.predicates.specs.Eleven.{bitOf}
+use Rattle.verdict.specs.Eleven.{verdictNo}
 use Rattle.masks.specs.Engine.{matchIn, verdictIn}
 
 -- a room's answer as a number: yes 1, no 0
 abbrev pub matchNo : List ℕ → ℕ → ℕ
-matchNo ms bits = bit (matchIn ms bits)
+matchNo ms bits = bitOf (matchIn ms bits)
 
 -- no for good 0, yes for good 1, open 2
-abbrev pub verdictNo : Verdict → ℕ
-verdictNo NoForGood = 0
-verdictNo YesForGood = 1
-verdictNo Open = 2
-
 abbrev pub verdictNoIn : List ℕ → ℕ → ℕ
 verdictNoIn ms bits = verdictNo (verdictIn ms bits)
 

@@ -1,7 +1,7 @@
 -- Request R-4: "turn a wholly good pattern into masks once", "State the link from mask to letter once over the cell index. Bad patterns
 -- are refused when the masks are made, as the verdict refuses them".
 use Prim.Native.Nat.{ℕ}
-use mathlib.Core.Bool.{Bool, true, false, not}
+use mathlib.Core.Bool.{Bool, not}
 use mathlib.Core.List.{List, [], _∷_}
 use lib.ListN.{getD}
 use Rattle.de9im.specs.declared.answer.Checked.{Checked}
@@ -9,15 +9,12 @@ use Rattle.de9im.specs.declared.answer.Checked.the-variants.{Fine, Refused}
 use Rattle.de9im.specs.EighteenBits.{below}
 use Rattle.de9im.specs.Letters.{letterOf, agreeLetter}
 use Rattle.de9im.specs.Patterns.{checkOf}
+use Rattle.predicates.specs.Eleven.{bitOf}
 use Rattle.masks.specs.declared.patterns.Masked.{Masked}
-
-abbrev pub bit : Bool → ℕ
-bit true = 1
-bit false = 0
 
 -- a word with a bit for each of k cells, the lower of the cell's two, the first cell in the highest
 unfoldable pub plane : (ℕ → Bool) → ℕ → ℕ
-plane b k = below 0 (λ j. bit (b j)) k
+plane b k = below 0 (λ j. bitOf (b j)) k
 
 -- the letter at k refuses the number n
 abbrev pub refusedAt : List ℕ → ℕ → ℕ → Bool

@@ -5,8 +5,9 @@ use crate::patterns::Masks;
 use de9im::answer::Checked;
 use de9im::refusal::Refusal;
 ghost use mathlib.Core.Path.{_≡_};
+ghost use Rattle.verdict.specs.Eleven.{verdictNo};
 ghost use Rattle.masks.specs.Engine.{verdictBy};
-ghost use Rattle.masks.specs.Many.{matchNo, verdictNo, verdictNoIn, enoughFor, answersAfter, countIn};
+ghost use Rattle.masks.specs.Many.{matchNo, verdictNoIn, enoughFor, answersAfter, countIn};
 
 // 1 yes, 0 no.
 pub fn match_number(m: Masks, bits: u32) -> u8

@@ -8,7 +8,8 @@ ghost use mathlib.Core.Path.{_≡_};
 ghost use Prim.Native.Nat.{_<_};
 ghost use lib.ListN.{getD};
 ghost use Rattle.de9im.specs.Dimension.{dimNo};
-ghost use Rattle.masks.specs.Patterns.{bit, maskedOf};
+ghost use Rattle.predicates.specs.Eleven.{bitOf};
+ghost use Rattle.masks.specs.Patterns.{maskedOf};
 ghost use Rattle.masks.specs.Inner.Planes.{leftOut, planesOf, Narrow, nextOf};
 
 // The mask of F, 0, 1, 2: the lower bit of a cell is set where its letter refuses that dimension.
@@ -22,7 +23,7 @@ pub struct Masked {
 
 // Whether a letter refuses a dimension, by what it accepts.
 fn refused(accepted: u8, d: Dimensions) -> u32
-    ensures { λ r. ⌜ (r ≡ bit (leftOut accepted (dimNo d))) × (r < 2) ⌝ }
+    ensures { λ r. ⌜ (r ≡ bitOf (leftOut accepted (dimNo d))) × (r < 2) ⌝ }
 {
     if agrees(accepted, d) { 0 } else { 1 }
 }

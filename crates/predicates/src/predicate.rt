@@ -59,7 +59,8 @@ pub(crate) fn asked(p: Predicate, t: Terms) -> bool
         Predicate::Intersects => !t.apart,
         Predicate::Within => t.ii & t.inner,
         Predicate::Contains => t.ii & t.outer,
-        Predicate::EqualTopo => (t.apart & t.inner & t.outer & t.plane) | (t.ii & t.inner & t.outer),
+        Predicate::EqualTopo => (t.apart & t.inner & t.outer & t.plane)
+            | (t.ii & t.inner & t.outer),
         Predicate::CoveredBy => !t.apart & t.inner,
         Predicate::Covers => !t.apart & t.outer,
         Predicate::ContainsProperly => t.ii & t.outer & t.clear,

@@ -36,7 +36,11 @@ pub(crate) fn at(p: Predicate, t: Terms) -> Verdict
         Predicate::Touches => pick(t.ii, Verdict::NoForGood, Verdict::Open),
         Predicate::Crosses => pick(areas, Verdict::NoForGood, Verdict::Open),
         Predicate::Overlaps => {
-            pick(areas & (t.ii & (t.ie & t.ei)), Verdict::YesForGood, Verdict::Open)
+            pick(
+                areas & (t.ii & (t.ie & t.ei)),
+                Verdict::YesForGood,
+                Verdict::Open,
+            )
         }
     }
 }

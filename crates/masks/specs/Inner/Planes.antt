@@ -3,7 +3,8 @@ use Prim.Native.Nat.{ℕ, _+_, _*_, _/_, _%_, _^_, _<_}
 use mathlib.Core.Bool.{Bool, not}
 use lib.Dec.{eqb}
 use Rattle.masks.specs.declared.planes.Planes.{Planes}
-use Rattle.masks.specs.Patterns.{bit, plane}
+use Rattle.predicates.specs.Eleven.{bitOf}
+use Rattle.masks.specs.Patterns.{plane}
 
 -- of a test of a cell's place and a number, a mask for each number
 abbrev pub planesTo : (ℕ → ℕ → Bool) → ℕ → Planes
@@ -26,10 +27,10 @@ leftOut accepted n = not (eqb (accepted / 2 ^ n % 2) 1)
 abbrev pub nextOf : Planes → (ℕ → Bool) → Planes
 nextOf m t =
     record {
-      f = m .f * 4 + bit (t 0);
-      d0 = m .d0 * 4 + bit (t 1);
-      d1 = m .d1 * 4 + bit (t 2);
-      d2 = m .d2 * 4 + bit (t 3);
+      f = m .f * 4 + bitOf (t 0);
+      d0 = m .d0 * 4 + bitOf (t 1);
+      d1 = m .d1 * 4 + bitOf (t 2);
+      d2 = m .d2 * 4 + bitOf (t 3);
     }
 
 -- masks with room for one more cell in eighteen bits
