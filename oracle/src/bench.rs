@@ -270,6 +270,17 @@ fn measure_text_in(name: &str, inputs: &[Input]) {
     );
 }
 
+/// Request R-4's lines alone.
+fn measure_asking_many(random: &mut Random) {
+    let any = inputs(random, |random, _| good_pattern(random));
+    measure_predicates("all eleven predicates of one matrix", &any);
+    measure_verdicts_at_once(
+        "verdicts of all eleven predicates in one call, beside the crate's eleven answers",
+        &any,
+    );
+    bench_masks::measure_all();
+}
+
 pub fn main() {
     let random = &mut Random::new(SEED);
     println!(
@@ -291,6 +302,9 @@ pub fn main() {
     println!();
     println!("| call | crate, ns | ours, ns | crate / ours |");
     println!("|---|---:|---:|---:|");
+    if std::env::args().nth(1).as_deref() == Some("masks") {
+        return measure_asking_many(random);
+    }
     let first = inputs(random, |random, cells| disagreeing_at(random, cells, 0));
     measure_matches("`matches`, disagrees at the first cell", &first);
     let early = inputs(random, |random, cells| {
@@ -323,9 +337,6 @@ pub fn main() {
     let texts = inputs(random, |random, _| good_text(random));
     measure_text_in("text in", &texts);
     bench_masks::measure_all();
-    if std::env::args().nth(1).as_deref() == Some("matrix") {
-        return;
-    }
     bench_plans::measure_all(random);
     if THERE {
         bench_plans::measure_reports(random);

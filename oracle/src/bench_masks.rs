@@ -73,16 +73,17 @@ fn line(name: &str, crates: &Best, ours: &Best) {
 
 fn measure(pattern: &str, cells: &[[u8; 9]]) {
     let matrices: Vec<IntersectionMatrix> = cells.iter().map(asked::matrix).collect();
-    let rooms: Vec<u32> = cells.iter().map(linked::pack).collect();
+    let rooms: Vec<u32> = cells.iter().map(|cells| linked::pack(cells)).collect();
     let mut masks = [0; 4];
     assert_eq!(linked::masks(pattern.as_bytes(), &mut masks), 0);
-    let (mut answers, mut verdicts) = (vec![0; ROOMS], vec![0; ROOMS]);
+    let (mut answers, mut verdicts) = (vec![0u8; ROOMS], vec![0u8; ROOMS]);
     linked::masks_match_all(&masks, &rooms, &mut answers);
     linked::masks_verdict_all(&masks, &rooms, &mut verdicts);
     for (k, cells) in cells.iter().enumerate() {
         let matches = rule::matches(cells, pattern.as_bytes());
         let verdict = rule_verdict::pattern(cells, pattern.as_bytes());
-        assert_eq!([answers[k].into(), verdicts[k].into()], [matches, verdict]);
+        assert_eq!(u32::from(answers[k]), matches);
+        assert_eq!(u32::from(verdicts[k]), verdict);
         assert_eq!(linked::masks_match(&masks, rooms[k]), matches);
         assert_eq!(linked::masks_verdict(&masks, rooms[k]), verdict);
     }

@@ -240,8 +240,12 @@ mod asking {
 
     fn batches(random: &mut Random, counts: &mut Counts) {
         let calls: [(All, One); 2] = [
-            (linked::masks_match_all, linked::masks_match),
-            (linked::masks_verdict_all, linked::masks_verdict),
+            (linked::masks_match_all, |masks, room| {
+                linked::masks_match(masks, room)
+            }),
+            (linked::masks_verdict_all, |masks, room| {
+                linked::masks_verdict(masks, room)
+            }),
         ];
         for size in 0..200 {
             let rooms: Vec<u32> = (0..size).map(|_| random.next() as u32).collect();

@@ -10,20 +10,13 @@ use predicates::terms::terms_of;
 ghost use mathlib.Core.Path.{_≡_};
 ghost use Rattle.de9im.specs.Cells.{cellsOf};
 ghost use Rattle.verdict.specs.Means.{Means, answerOf};
-ghost use Rattle.verdict.specs.Inner.Table.{areas, verdictOf};
+ghost use Rattle.verdict.specs.Inner.Table.{verdictOf};
 
-// Two areas: a and b are both 2.
-fn are_areas(t: Terms) -> bool
-    ensures { λ r. ⌜ r ≡ areas t ⌝ }
-{
-    (t.a == 3) & (t.b == 3)
-}
-
-// For two areas overlaps asks for II, IE and EI, which never fall back to F.
+// Two areas, a and b both 2, never cross; overlaps asks them for II, IE and EI, which never fall back to F. No local for that: with
+// one the compiler made a branch of it.
 pub(crate) fn at(p: Predicate, t: Terms) -> Verdict
     ensures { λ r. ⌜ r ≡ verdictOf p t ⌝ }
 {
-    let areas = are_areas(t);
     match p {
         Predicate::Disjoint => pick(t.apart, Verdict::Open, Verdict::NoForGood),
         Predicate::Intersects => pick(t.apart, Verdict::Open, Verdict::YesForGood),
@@ -34,10 +27,11 @@ pub(crate) fn at(p: Predicate, t: Terms) -> Verdict
         Predicate::Covers => pick(t.outer, Verdict::Open, Verdict::NoForGood),
         Predicate::ContainsProperly => pick(t.clear & t.outer, Verdict::Open, Verdict::NoForGood),
         Predicate::Touches => pick(t.ii, Verdict::NoForGood, Verdict::Open),
-        Predicate::Crosses => pick(areas, Verdict::NoForGood, Verdict::Open),
+        Predicate::Crosses => pick((t.a == 3) & (t.b == 3), Verdict::NoForGood, Verdict::Open),
         Predicate::Overlaps => {
+            let held = t.ii & (t.ie & t.ei);
             pick(
-                areas & (t.ii & (t.ie & t.ei)),
+                (t.a == 3) & (t.b == 3) & held,
                 Verdict::YesForGood,
                 Verdict::Open,
             )

@@ -7,7 +7,6 @@ pub at-spec : {M : Type 1} → statement M
 at-spec =
     tie.close
     (tie.spec
-    (λ c κs. search needs)
     (λ c. search needs)
     (λ c κs. search needs)
     (λ c. search needs)
@@ -39,5 +38,5 @@ at-spec =
     (λ c. simp (c .pick7 .ensures, c .before .enum-told7 .given .1))
     (λ c. simp (c .pick8 .ensures, c .before .before .enum-told8 .given .1))
     (λ c. simp (c .pick9 .ensures, c .before .enum-told9 .given .1))
-    (λ c. simp (c .pick10 .ensures, c .before .enum-told10 .given .1, c .before .before .before .are-areas .ensures))
-    (λ c. simp (c .pick11 .ensures, c .before .before .before .enum-told11 .given .1, c .before .before .before .before .before .are-areas .ensures)))
+    (λ c. simp (c .pick10 .ensures, c .before .before .before .enum-told10 .given .1))
+    (λ c. simp (c .pick11 .ensures, c .before .before .before .before .before .enum-told11 .given .1)))
