@@ -53,7 +53,7 @@ pub(crate) fn decoded(digits: &[u8]) -> Case {
     out
 }
 
-fn wide(x: u8) -> u32
+pub(crate) fn wide(x: u8) -> u32
     ensures { λ r. ⌜ r < 256 ⌝ }
 {
     x as u32

@@ -1,5 +1,6 @@
 // The calls on masks and packed matrices, and all verdicts at once: each asked, and its word and what it wrote compared.
 use crate::case::Head;
+use crate::case::wide;
 use crate::matrix_calls::same_nine;
 use misonkandi::rooms;
 
@@ -26,8 +27,8 @@ fn many(masks: [u32; 4], room: u32, word: u32) -> bool {
     let count = rooms::misonkandi_masks_count(&masks, &list);
     (fine == 0)
         & (too == 0)
-        & (matches[0] as u32 == word % 4)
-        & (verdicts[0] as u32 == word / 4)
+        & (wide(matches[0]) == word % 4)
+        & (wide(verdicts[0]) == word / 4)
         & (matches[1] == 9)
         & (verdicts[1] == 9)
         & (count == (word % 4) as u64)
@@ -41,10 +42,14 @@ pub(crate) fn packed(h: Head, due: &[u8]) -> bool {
     (rooms::misonkandi_pack(&cells) == h.word) & same_nine(back, due)
 }
 
+fn same_eleven(a: [u8; 11], due: &[u8]) -> bool {
+    check::same(&a, due)
+}
+
 // All eleven verdicts.
 pub(crate) fn verdicts(h: Head, due: &[u8]) -> bool {
     let cells = h.cells;
     let mut told = [9u8; 11];
     misonkandi::verdicts::misonkandi_verdicts(&cells, &mut told);
-    check::same(&told, due)
+    same_eleven(told, due)
 }
