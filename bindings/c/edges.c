@@ -69,6 +69,24 @@ static uint32_t predicates(const lendings *l) { return misonkandi_predicates(l->
 static uint32_t matches(const lendings *l) { return misonkandi_matches(l->cells, l->bytes, l->count); }
 static uint32_t verdict(const lendings *l) { return misonkandi_verdict(l->cells, MISONKANDI_OVERLAPS); }
 static uint32_t verdict_pattern(const lendings *l) { return misonkandi_verdict_pattern(l->cells, l->bytes, l->count); }
+static uint32_t verdicts(const lendings *l) { misonkandi_verdicts(l->cells, l->labels + 224 - 11); return 0; }
+static uint32_t pack(const lendings *l) { return misonkandi_pack(l->cells); }
+static uint32_t unpack(const lendings *l) { misonkandi_unpack(misonkandi_pack(l->cells), l->cells); return 0; }
+/* The masks are the last sixteen bytes of the labels, the rooms are an outline's numbers. */
+static uint32_t *masks_in(const lendings *l) { return (uint32_t *)(void *)(l->labels + 224 - 16); }
+static uint32_t masks(const lendings *l) { return misonkandi_masks(l->bytes, l->count, masks_in(l)); }
+static uint32_t masks_match(const lendings *l) { return misonkandi_masks_match(masks_in(l), 0xFFFFFFFFu); }
+static uint32_t masks_verdict(const lendings *l) { return misonkandi_masks_verdict(masks_in(l), 0xFFFFFFFFu); }
+static const uint32_t *rooms_in(const lendings *l) { return (const uint32_t *)(const void *)l->xy; }
+static uint32_t match_all(const lendings *l) {
+    return misonkandi_masks_match_all(masks_in(l), rooms_in(l), l->count, l->buffer, l->room);
+}
+static uint32_t verdict_all(const lendings *l) {
+    return misonkandi_masks_verdict_all(masks_in(l), rooms_in(l), l->count, l->buffer, l->room);
+}
+static uint32_t masks_count(const lendings *l) {
+    return (uint32_t)misonkandi_masks_count(masks_in(l), rooms_in(l), l->count);
+}
 static uint32_t relate(const lendings *l) {
     return misonkandi_relate_places(MISONKANDI_BOX, 0, 0, 4, 4, MISONKANDI_BOX, 2, 2, 6, 6, l->cells);
 }
@@ -136,6 +154,15 @@ static const struct {
     {"matches", matches, TEXT, 10, 0},
     {"verdict", verdict, TEXT, 0, 0},
     {"verdict_pattern", verdict_pattern, TEXT, 10, 0},
+    {"verdicts", verdicts, TEXT, 0, 0},
+    {"pack", pack, TEXT, 0, 0},
+    {"unpack", unpack, TEXT, 0, 1},
+    {"masks", masks, TEXT, 10, 0},
+    {"masks_match", masks_match, TEXT, 0, 0},
+    {"masks_verdict", masks_verdict, TEXT, 0, 0},
+    {"match_all", match_all, OUTLINE, 0, 0},
+    {"verdict_all", verdict_all, OUTLINE, 0, 0},
+    {"masks_count", masks_count, OUTLINE, 0, 0},
     {"relate_places", relate, TEXT, 0, 1},
     {"point_in_outline", point_in_outline, OUTLINE, 16, 0},
     {"bundle", bundle, ENDS, 0, 0},
@@ -343,6 +370,23 @@ static void numbers(void) {
     refused(misonkandi_set(cells, 4, 0, 0), MISONKANDI_REFUSAL_POSITION_CODE, 0);
 
 
+    {
+        uint32_t four[MISONKANDI_MASKS] = {7, 7, 7, 7}, rooms[3] = {0, 0x3FFFFu, 0xFFFFFFFFu};
+        uint8_t answers[4] = {9, 9, 9, 9};
+        refused(misonkandi_masks(bytes_of("********"), 8, four), MISONKANDI_REFUSAL_NOT_NINE_BYTES, 0);
+        refused(misonkandi_masks(bytes_of("T*X******"), 9, four), MISONKANDI_REFUSAL_BAD_BYTE, 2);
+        SAME(four[0] + four[3], 14);
+        SAME(misonkandi_masks(bytes_of("T********"), 9, four), 0);
+        SAME(four[0], 0x10000), SAME(four[1] | four[2] | four[3], 0);
+        refused(misonkandi_masks_match_all(four, rooms, 3, answers, 2), MISONKANDI_REFUSAL_NO_ROOM, 0);
+        refused(misonkandi_masks_verdict_all(four, rooms, 3, answers, 2), MISONKANDI_REFUSAL_NO_ROOM, 0);
+        SAME(memcmp(answers, "\11\11\11\11", 4), 0);
+        SAME(misonkandi_masks_match_all(four, rooms, 3, answers, 4), 0);
+        SAME(memcmp(answers, "\0\1\1\11", 4), 0);
+        SAME(misonkandi_masks_verdict_all(four, rooms, 3, answers, 3), 0);
+        SAME(memcmp(answers, "\2\1\1\11", 4), 0);
+        SAME(misonkandi_masks_count(four, rooms, 3), 2);
+    }
     for (k = 0; k < MISONKANDI_ROWS; k++) SAME(misonkandi_predicate_named(bytes_of(names[k]), strlen(names[k])), k);
     SAME(misonkandi_predicate_named(bytes_of("touch"), 5), MISONKANDI_NO_SUCH_ROW);
     SAME(misonkandi_predicate_named(bytes_of("Touches"), 7), MISONKANDI_NO_SUCH_ROW);

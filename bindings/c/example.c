@@ -1,5 +1,6 @@
-/* A plan record from bytes to nine letters, a predicate by its row and one by its name, a refused pattern, a floor of
- * records in one call and in pieces, points in an outline, and shapes read from text and written back. */
+/* A plan record from bytes to nine letters, a predicate by its row and one by its name, a refused pattern, one pattern
+ * asked of many rooms, a floor of records in one call and in pieces, points in an outline, and shapes read from text
+ * and written back. */
 #include "misonkandi.h"
 #include <stdio.h>
 #include <string.h>
@@ -103,6 +104,26 @@ static void tell_text(const char *text) {
         printf("%s refused %u\n", text, (unsigned)MISONKANDI_NUMBER(word));
 }
 
+/* One pattern asked of many rooms: made into masks once, then all in one call. */
+static void tell_rooms(const char *pattern) {
+    static const char *const texts[3] = {"2FF1FF212", "212101212", "FFFFFFFF2"};
+    uint32_t masks[MISONKANDI_MASKS], rooms[3];
+    uint8_t answers[3], verdicts[3];
+    int k;
+    for (k = 0; k < 3; k++) {
+        uint8_t cells[MISONKANDI_CELLS];
+        if (MISONKANDI_REFUSED(misonkandi_from_text(cells, bytes(texts[k]), strlen(texts[k])))) return;
+        rooms[k] = misonkandi_pack(cells);
+    }
+    if (MISONKANDI_REFUSED(misonkandi_masks(bytes(pattern), strlen(pattern), masks))) return;
+    if (MISONKANDI_REFUSED(misonkandi_masks_match_all(masks, rooms, 3, answers, 3))) return;
+    if (MISONKANDI_REFUSED(misonkandi_masks_verdict_all(masks, rooms, 3, verdicts, 3))) return;
+    for (k = 0; k < 3; k++)
+        printf("%s on %s: %s%s\n", pattern, texts[k], answers[k] == 1 ? "yes" : "no",
+               verdicts[k] == MISONKANDI_OPEN ? "" : ", for good");
+    printf("%lu of 3 rooms match\n", (unsigned long)misonkandi_masks_count(masks, rooms, 3));
+}
+
 int main(void) {
     uint8_t cells[MISONKANDI_CELLS] = MISONKANDI_START, text[MISONKANDI_CELLS];
     uint32_t used = misonkandi_record(cells, record, sizeof record);
@@ -115,6 +136,7 @@ int main(void) {
     printf("touches %s\n", misonkandi_verdict(cells, row) == MISONKANDI_NO_FOR_GOOD ? "no, for good" : "perhaps");
     tell_pattern(cells, "T*T***T**");
     tell_pattern(cells, "T*X******");
+    tell_rooms("T*F**F***");
     tell_one_call(20);
     tell_one_call(19);
     tell_pieces(16);

@@ -1,13 +1,14 @@
-/* Misonkandi for C: DE-9IM matrices, their eleven predicates and patterns, and what fills a matrix: plan records, the
- * ends at a node, points and boxes, stored reports; whole floors of records, in one call or in pieces; a point in an
- * outline; and shapes as WKT text. `sh tools/library.sh` builds the library for the processor at hand,
- * target/native/libmisonkandi.a.
+/* Misonkandi for C: DE-9IM matrices, their eleven predicates and patterns, one pattern asked of many matrices, and
+ * what fills a matrix: plan records, the ends at a node, points and boxes, stored reports; whole floors of records, in
+ * one call or in pieces; a point in an outline; and shapes as WKT text. `sh tools/library.sh` builds the library for
+ * the processor at hand, target/native/libmisonkandi.a.
  *
  * Every function of the library is proved to answer what its contract says, for all bytes and numbers that it can be
  * given; this header says the same in words. Two duties are left to the caller:
  *
  *   - A pointer leads to as many bytes or numbers as its parameter says, or to a state, or to `count` bytes, or `room`,
- *     or to `numbers` numbers of 32 bits. Where that is 0 the pointer is not used and may be NULL; no other may.
+ *     or to `numbers` numbers of 32 bits, or to `count` rooms. Where that is 0 the pointer is not used and may be
+ *     NULL; no other may.
  *   - What a call writes overlaps nothing else that the call is lent: the proofs don't cover that. Two that are only
  *     read may overlap.
  *
@@ -75,7 +76,8 @@ enum misonkandi_refusals {
     MISONKANDI_REFUSAL_MISSING_LEFT = 9,    /* for A or for B, some area bundle has a left and some only a right */
     MISONKANDI_REFUSAL_NOT_NINE_BYTES = 10, /* text or pattern not nine bytes */
     MISONKANDI_REFUSAL_BAD_BYTE = 11,       /* bad byte in a text, pattern or report; the place is the first one's */
-    MISONKANDI_REFUSAL_NO_ROOM = 12,        /* offset beyond the buffer, or fewer bytes there than are written */
+    MISONKANDI_REFUSAL_NO_ROOM = 12,        /* offset beyond the buffer, or fewer bytes there than are written; fewer
+                                             * answers than rooms */
     MISONKANDI_REFUSAL_NOT_A_PLACE = 13,    /* coordinate not finite, box without min < max on an axis, kind above 1 */
     MISONKANDI_REFUSAL_TOP_BITS = 14,       /* one of the top six bits of a short report's cells set */
     MISONKANDI_REFUSAL_CORNER_COUNT = 16,   /* wrong count of corners, or half a corner left over; no such shape */
@@ -196,6 +198,51 @@ uint32_t misonkandi_verdict(const uint8_t cells[9], uint32_t row);
 
 /* The verdict of a pattern, or refusal 10, or 11: the whole pattern is checked before any cell is looked at. */
 uint32_t misonkandi_verdict_pattern(const uint8_t cells[9], const uint8_t *pattern, size_t count);
+
+/* The verdicts of all eleven predicates, in the order of their rows: verdicts[k] is misonkandi_verdict's of row k. */
+void misonkandi_verdicts(const uint8_t cells[9], uint8_t verdicts[11]);
+
+/* ---- One pattern and many rooms ----
+ *
+ * A matrix packed is one number of eighteen bits, two for each cell, 0 to 3 for F, 0, 1, 2: II in the highest two, EE
+ * in the lowest. Here a matrix so packed is called a room. Bits above the eighteen are not looked at by any call.
+ *
+ * A pattern that is good as a whole is made into four masks once, one for each dimension F, 0, 1, 2 in this order;
+ * then each answer is a few operations on words. In a mask the lower of a cell's two bits is set if the cell's letter
+ * refuses the mask's dimension; so T sets it in the first mask alone. No other bit of a mask is looked at. So any four
+ * words are masks, also such as no pattern makes: they refuse what their bits say.
+ */
+#define MISONKANDI_MASKS 4
+
+/* The number of a matrix, below 2^18. A cell above 3 is read as 3. */
+uint32_t misonkandi_pack(const uint8_t cells[9]);
+
+/* Its nine cells, each 0 to 3. */
+void misonkandi_unpack(uint32_t room, uint8_t cells[9]);
+
+/* Makes a pattern's masks: 0 and the four written, or refusal 10 or 11, as misonkandi_verdict_pattern refuses it. */
+uint32_t misonkandi_masks(const uint8_t *pattern, size_t count, uint32_t masks[4]);
+
+/* Whether the room matches the pattern that the masks were made of, 1 or 0: misonkandi_matches of its cells. Of any
+ * four words: 1 if in no cell the dimension is refused. */
+uint32_t misonkandi_masks_match(const uint32_t masks[4], uint32_t room);
+
+/* The verdict of that pattern, 1, 0 or 2: misonkandi_verdict_pattern of its cells. Of any four words: 0 if in some
+ * cell the dimension and all above it are refused; else 1 if in no cell it or one above it is; else 2. */
+uint32_t misonkandi_masks_verdict(const uint32_t masks[4], uint32_t room);
+
+/* The answers to `count` rooms, in their order: answers[k] is misonkandi_masks_match's of rooms[k]. There is place for
+ * `room` answers; those beyond the rooms' stay. 0, or refusal 12 and nothing written if there are fewer answers than
+ * rooms. */
+uint32_t misonkandi_masks_match_all(const uint32_t masks[4], const uint32_t *rooms, size_t count, uint8_t *answers,
+                                    size_t room);
+
+/* The same with verdicts. */
+uint32_t misonkandi_masks_verdict_all(const uint32_t masks[4], const uint32_t *rooms, size_t count, uint8_t *answers,
+                                      size_t room);
+
+/* How many of the rooms match. */
+uint64_t misonkandi_masks_count(const uint32_t masks[4], const uint32_t *rooms, size_t count);
 
 /* ---- Points and boxes ---- */
 enum misonkandi_place_kinds {

@@ -7,6 +7,7 @@
 
 use crate::asked;
 use crate::bench_floors;
+use crate::bench_masks;
 use crate::bench_plans;
 use crate::ours::{Call, Op};
 use crate::pieces::{agreeing_pattern, disagreeing, good_pattern, good_text};
@@ -34,6 +35,10 @@ mod linked {
     }
 
     pub fn from_text(_: &mut [u8; 9], _: &[u8]) -> u32 {
+        unreachable!()
+    }
+
+    pub fn verdicts(_: &[u8; 9], _: &mut [u8; 11]) {
         unreachable!()
     }
 
@@ -221,6 +226,21 @@ fn measure_verdicts(name: &str, inputs: &[Input]) {
     );
 }
 
+/// The same in one call.
+fn measure_verdicts_at_once(name: &str, inputs: &[Input]) {
+    measure(
+        name,
+        inputs,
+        |input| asked::predicates(&input.matrix),
+        |input| {
+            let mut verdicts = [0; 11];
+            linked::verdicts(&input.cells, &mut verdicts);
+            verdicts
+        },
+        |input| std::array::from_fn(|row| rule_verdict::predicate(&input.cells, row as u32) as u8),
+    );
+}
+
 /// The crate has no verdict: its side is `matches` of the same pattern.
 fn measure_verdict_pattern(name: &str, inputs: &[Input]) {
     measure(
@@ -250,7 +270,18 @@ fn measure_text_in(name: &str, inputs: &[Input]) {
     );
 }
 
-/// `bench`, or `bench plans`: the lines of records, nodes and stars alone.
+/// Request R-4's lines alone.
+fn measure_asking_many(random: &mut Random) {
+    let any = inputs(random, |random, _| good_pattern(random));
+    measure_predicates("all eleven predicates of one matrix", &any);
+    measure_verdicts_at_once(
+        "verdicts of all eleven predicates in one call, beside the crate's eleven answers",
+        &any,
+    );
+    bench_masks::measure_all();
+}
+
+/// `bench`, or `bench plans`: the lines of records, nodes and stars alone; or `bench masks`: request R-4's.
 pub fn main() {
     let random = &mut Random::new(SEED);
     let plans = std::env::args().nth(1).is_some_and(|word| word == "plans");
@@ -276,6 +307,9 @@ pub fn main() {
     if plans {
         return bench_plans::measure_all(random);
     }
+    if std::env::args().nth(1).as_deref() == Some("masks") {
+        return measure_asking_many(random);
+    }
     let first = inputs(random, |random, cells| disagreeing_at(random, cells, 0));
     measure_matches("`matches`, disagrees at the first cell", &first);
     let early = inputs(random, |random, cells| {
@@ -293,6 +327,10 @@ pub fn main() {
         "verdicts of all eleven predicates, beside the crate's eleven answers",
         &any,
     );
+    measure_verdicts_at_once(
+        "verdicts of all eleven predicates in one call, beside the crate's eleven answers",
+        &any,
+    );
     measure_verdict_pattern(
         "verdict of a random good pattern, beside the crate's `matches` of it",
         &any,
@@ -303,6 +341,7 @@ pub fn main() {
     );
     let texts = inputs(random, |random, _| good_text(random));
     measure_text_in("text in", &texts);
+    bench_masks::measure_all();
     bench_plans::measure_all(random);
     if THERE {
         bench_plans::measure_reports(random);

@@ -15,6 +15,7 @@ use crate::rule::{self, Outcome};
 use crate::sample_again;
 use crate::sample_floors;
 use crate::sample_line::{self, Case};
+use crate::sample_masks;
 use crate::sample_outlines;
 use crate::sample_plans;
 use crate::sample_reports;
@@ -89,6 +90,8 @@ pub fn main() {
         met.extend(sample_plans::write_lines(&mut lines, &calls));
     }
     sample_plans::check_met(&met);
+    lines.push_str(sample_masks::HEAD);
+    sample_masks::write_lines(&mut lines);
     print!("{lines}");
 }
 

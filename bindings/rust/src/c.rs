@@ -32,6 +32,11 @@ mod declared {
         pub safe fn misonkandi_predicates(cells: &[u8; 9]) -> u32;
         pub safe fn misonkandi_predicate(cells: &[u8; 9], row: u32) -> u32;
         pub safe fn misonkandi_verdict(cells: &[u8; 9], row: u32) -> u32;
+        pub safe fn misonkandi_verdicts(cells: &[u8; 9], verdicts: &mut [u8; 11]);
+        pub safe fn misonkandi_pack(cells: &[u8; 9]) -> u32;
+        pub safe fn misonkandi_unpack(room: u32, cells: &mut [u8; 9]);
+        pub safe fn misonkandi_masks_match(masks: &[u32; 4], room: u32) -> u32;
+        pub safe fn misonkandi_masks_verdict(masks: &[u32; 4], room: u32) -> u32;
         pub safe fn misonkandi_to_text(cells: &[u8; 9], text: &mut [u8; 9]);
         pub safe fn misonkandi_set(cells: &mut [u8; 9], a: u32, b: u32, dimension: u8) -> u32;
         pub safe fn misonkandi_set_at_least(
@@ -66,6 +71,22 @@ mod declared {
         pub fn misonkandi_matches(cells: &[u8; 9], pattern: *const u8, count: usize) -> u32;
         pub fn misonkandi_verdict_pattern(cells: &[u8; 9], pattern: *const u8, count: usize)
         -> u32;
+        pub fn misonkandi_masks(pattern: *const u8, count: usize, masks: &mut [u32; 4]) -> u32;
+        pub fn misonkandi_masks_match_all(
+            masks: &[u32; 4],
+            rooms: *const u32,
+            count: usize,
+            answers: *mut u8,
+            room: usize,
+        ) -> u32;
+        pub fn misonkandi_masks_verdict_all(
+            masks: &[u32; 4],
+            rooms: *const u32,
+            count: usize,
+            answers: *mut u8,
+            room: usize,
+        ) -> u32;
+        pub fn misonkandi_masks_count(masks: &[u32; 4], rooms: *const u32, count: usize) -> u64;
         pub fn misonkandi_from_text(cells: &mut [u8; 9], text: *const u8, count: usize) -> u32;
         pub fn misonkandi_raise_from_text(
             cells: &mut [u8; 9],
@@ -135,6 +156,9 @@ mod declared {
 }
 
 pub use declared::misonkandi_finish as finish;
+pub use declared::misonkandi_masks_match as masks_match;
+pub use declared::misonkandi_masks_verdict as masks_verdict;
+pub use declared::misonkandi_pack as pack;
 pub use declared::misonkandi_predicate as predicate;
 pub use declared::misonkandi_predicates as predicates;
 pub use declared::misonkandi_set as set;
@@ -142,7 +166,9 @@ pub use declared::misonkandi_set_at_least as set_at_least;
 pub use declared::misonkandi_start as start;
 pub use declared::misonkandi_to_text as to_text;
 pub use declared::misonkandi_transpose as transpose;
+pub use declared::misonkandi_unpack as unpack;
 pub use declared::misonkandi_verdict as verdict;
+pub use declared::misonkandi_verdicts as verdicts;
 
 /// A place is its kind and four coordinates.
 pub fn relate_places(a: (u32, [f64; 4]), b: (u32, [f64; 4]), cells: &mut [u8; 9]) -> u32 {
@@ -164,6 +190,32 @@ pub fn matches(cells: &[u8; 9], pattern: &[u8]) -> u32 {
 pub fn verdict_pattern(cells: &[u8; 9], pattern: &[u8]) -> u32 {
     // SAFETY: pointer and count are those of one slice, lent to be read until the call ends.
     unsafe { declared::misonkandi_verdict_pattern(cells, pattern.as_ptr(), pattern.len()) }
+}
+
+pub fn masks(pattern: &[u8], masks: &mut [u32; 4]) -> u32 {
+    // SAFETY: pointer and count are those of one slice, lent to be read until the call ends; the masks lie elsewhere.
+    unsafe { declared::misonkandi_masks(pattern.as_ptr(), pattern.len(), masks) }
+}
+
+pub fn masks_match_all(masks: &[u32; 4], rooms: &[u32], answers: &mut [u8]) -> u32 {
+    let (start, room) = (answers.as_mut_ptr(), answers.len());
+    // SAFETY: each pointer and count are those of one slice. The rooms are lent to be read until the call ends, the
+    // answers are lent to nobody else until then, and so lie elsewhere.
+    unsafe { declared::misonkandi_masks_match_all(masks, rooms.as_ptr(), rooms.len(), start, room) }
+}
+
+pub fn masks_verdict_all(masks: &[u32; 4], rooms: &[u32], answers: &mut [u8]) -> u32 {
+    let (start, room) = (answers.as_mut_ptr(), answers.len());
+    // SAFETY: each pointer and count are those of one slice. The rooms are lent to be read until the call ends, the
+    // answers are lent to nobody else until then, and so lie elsewhere.
+    unsafe {
+        declared::misonkandi_masks_verdict_all(masks, rooms.as_ptr(), rooms.len(), start, room)
+    }
+}
+
+pub fn masks_count(masks: &[u32; 4], rooms: &[u32]) -> u64 {
+    // SAFETY: pointer and count are those of one slice, lent to be read until the call ends.
+    unsafe { declared::misonkandi_masks_count(masks, rooms.as_ptr(), rooms.len()) }
 }
 
 pub fn from_text(cells: &mut [u8; 9], text: &[u8]) -> u32 {

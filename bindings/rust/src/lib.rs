@@ -21,7 +21,7 @@
 //! # Ok::<(), Refusal>(())
 //! ```
 //!
-//! [`floor`] pours a whole floor of records in one call, and [`Pieces`] one that comes in pieces. [`Outline`] says where
+//! [`Masks`] asks one pattern of many matrices. [`floor`] pours a whole floor of records in one call, and [`Pieces`] one that comes in pieces. [`Outline`] says where
 //! a point lies against a room's walls. [`Shape`] is a point, a line or a polygon, read from WKT text and written as such.
 //!
 //! What differs from geo: a refusal is a number and a place, not a text; a bad letter of a pattern is refused on every
@@ -43,6 +43,7 @@ mod c;
 mod conversion;
 mod corners;
 mod floor;
+mod masks;
 mod matrix;
 mod outline;
 mod place;
@@ -58,6 +59,7 @@ mod verdict;
 pub use conversion::{MOST_CONVERTED_BYTES, convert_record};
 pub use corners::MOST_CORNERS;
 pub use floor::{Floor, PIECES_BYTES, Pieces, floor};
+pub use masks::Masks;
 pub use matrix::IntersectionMatrix;
 pub use outline::{Outline, point_in_outline};
 pub use place::{Coord, Place, relate_coded};

@@ -190,7 +190,7 @@ impl IntersectionMatrix {
     }
 
     /// All eleven answers in one call, in the order of [`Predicate::ALL`]. Promised: `answersOf`,
-    /// crates/misonkandi/specs/Rows.antt.
+    /// crates/predicates/specs/Eleven.antt.
     #[must_use]
     pub fn answers(&self) -> [bool; 11] {
         let bits = c::predicates(&self.cells);

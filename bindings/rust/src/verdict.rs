@@ -28,7 +28,18 @@ impl Verdict {
         }
     }
 
-    fn of_number(number: u32) -> Verdict {
+    /// The verdict of a number: 0 no for good, 1 yes for good, 2 open; of another there is none.
+    #[must_use]
+    pub const fn of(number: u8) -> Option<Verdict> {
+        match number {
+            0 => Some(Verdict::NoForGood),
+            1 => Some(Verdict::YesForGood),
+            2 => Some(Verdict::Open),
+            _ => None,
+        }
+    }
+
+    pub(crate) fn of_number(number: u32) -> Verdict {
         match number {
             0 => Verdict::NoForGood,
             1 => Verdict::YesForGood,
@@ -52,6 +63,15 @@ impl IntersectionMatrix {
     /// ```
     pub fn verdict(&self, predicate: Predicate) -> Verdict {
         Verdict::of_number(c::verdict(&self.cells(), predicate.number()))
+    }
+
+    /// The verdicts of all eleven predicates in one call, in the order of [`Predicate::ALL`]. Promised: `TellsEach`,
+    /// crates/verdict/specs/Eleven.antt.
+    #[must_use]
+    pub fn verdicts(&self) -> [Verdict; 11] {
+        let mut numbers = [0; 11];
+        c::verdicts(&self.cells(), &mut numbers);
+        numbers.map(|number| Verdict::of_number(number.into()))
     }
 
     /// The same of a pattern, which is checked whole before any cell is looked at.

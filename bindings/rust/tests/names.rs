@@ -51,7 +51,7 @@ fn declared(text: &str) -> BTreeSet<&str> {
         .filter(|line| !line.starts_with('*') && !line.starts_with('/'))
         .filter_map(|line| {
             let line = line.split_once('(')?.0;
-            ["uint32_t ", "void ", "pub fn ", "pub safe fn "]
+            ["uint32_t ", "uint64_t ", "void ", "pub fn ", "pub safe fn "]
                 .iter()
                 .find_map(|start| line.strip_prefix(start))
         })
@@ -64,7 +64,7 @@ fn the_header_s_functions_are_the_crate_s() {
     let (header, crate_s) = (header(), read("src/c.rs"));
     let names = declared(&header);
     assert_eq!(names, declared(&crate_s));
-    assert_eq!(names.len(), 28);
+    assert_eq!(names.len(), 37);
 }
 
 /// The lines between the braces of a struct, without what is said of them.

@@ -5,8 +5,8 @@ use std::collections::BTreeMap;
 use std::fs;
 
 use misonkandi::{
-    CoordPos, END_BYTES, EdgeEnd, IntersectionMatrix, LABEL_BYTES, Label, Outline, Pieces, Place,
-    Predicate, Refusal, Shape, ShapeKind, Verdict, bundle, bundle_of_bytes, convert_record,
+    CoordPos, END_BYTES, EdgeEnd, IntersectionMatrix, LABEL_BYTES, Label, Masks, Outline, Pieces,
+    Place, Predicate, Refusal, Shape, ShapeKind, Verdict, bundle, bundle_of_bytes, convert_record,
     convert_report, floor, point_in_outline, read_wkt, relate_coded, star, star_of_bytes,
     write_star, write_wkt,
 };
@@ -318,6 +318,36 @@ fn floor_case(kind: char, case: &Case) {
     assert_eq!(matrix, told.matrix());
 }
 
+/// m, p, v: a pattern's masks on a room, a matrix packed and unpacked, all eleven verdicts.
+fn room_case(kind: char, case: &Case) {
+    match kind {
+        'm' => {
+            let masks = Masks::from_bytes(&case.given);
+            let answer = masks.map(|masks| {
+                let (mut matches, mut verdicts) = ([9; 2], [9; 2]);
+                masks.match_all(&[case.a], &mut matches).unwrap();
+                masks.verdict_all(&[case.a], &mut verdicts).unwrap();
+                let (matched, verdict) = (masks.matches(case.a), masks.verdict(case.a));
+                assert_eq!(matches, [matched.into(), 9]);
+                assert_eq!(Verdict::of(verdicts[0]), Some(verdict));
+                assert_eq!(masks.count(&[case.a]), matched.into());
+                4 * verdict_number(verdict) + u32::from(matched)
+            });
+            case.says(answer);
+            let text = str::from_utf8(&case.given).ok();
+            assert!(text.is_none_or(|text| text.parse() == masks));
+        }
+        'p' => {
+            case.says(Ok(case.matrix().pack()));
+            case.leaves(IntersectionMatrix::unpack(case.a));
+        }
+        _ => {
+            let told = case.matrix().verdicts().map(verdict_number);
+            assert_eq!(told, case.due::<11>().map(u32::from));
+        }
+    }
+}
+
 fn coordinate(byte: u8) -> f64 {
     match byte {
         0xfc => -0.0,
@@ -443,6 +473,7 @@ fn every_stored_answer() {
             'B' | 'K' => ends_case(kind, &case),
             'N' | 'D' | 'E' | 'F' | 'C' | 'Z' => record_case(kind, &case),
             'A' | 'Y' => floor_case(kind, &case),
+            'm' | 'p' | 'v' => room_case(kind, &case),
             'G' => place_case(&case),
             'I' => outline_case(&case),
             'J' => read_case(&case),
@@ -456,8 +487,8 @@ fn every_stored_answer() {
     }
     assert_eq!(
         seen.len(),
-        26,
-        "a kind of line for each call of the library, one for the three of a floor in pieces"
+        29,
+        "a kind of line for each call of the library, one for the three of a floor in pieces and three for rooms"
     );
     // No line was passed over: the replay of the C interface has the same number.
     let total = format!("{} replayed, 0 differ\n", seen.values().sum::<usize>());

@@ -1,6 +1,5 @@
--- Document 01's table of predicates, row by row from 0, as C asks for a predicate, and a row by its name; all eleven answers are bits
--- of one number, the first row lowest.
-use Prim.Native.Nat.{ℕ, zero, suc, _+_, _*_}
+-- Document 01's table of predicates, row by row from 0, as C asks for a predicate, and a row by its name.
+use Prim.Native.Nat.{ℕ, zero, suc}
 use mathlib.Core.List.{List, [], _∷_}
 use Rattle.de9im.specs.Matrix.{Matrix}
 use Rattle.predicates.specs.declared.predicate.Named.{Named}
@@ -21,14 +20,6 @@ use Rattle.predicates.specs.declared.predicate.Predicate.the-variants.{
 }
 use Rattle.predicates.specs.Predicates.{holds, allPredicates}
 use Rattle.misonkandi.specs.Words.{bitOf, noSuchRow}
-
--- the answers of a table's rows, from its first row on
-abbrev pub answersFrom : List Predicate → Matrix → ℕ
-answersFrom [] m = 0
-answersFrom (p ∷ ps) m = bitOf (holds p m) + 2 * answersFrom ps m
-
-abbrev pub answersOf : Matrix → ℕ
-answersOf m = answersFrom allPredicates m
 
 -- the k-th row of a table, if there is one
 abbrev pub rowAt : List Predicate → ℕ → Named

@@ -3,34 +3,21 @@
 -- two words which are allowed are one is `one-word` and `one-pattern-word` of proofs/LawsVerdicts.antt.
 use Prim.Native.Nat.{ℕ}
 use mathlib.Core.Path.{_≡_}
-use mathlib.Core.Bool.{Bool}
 use mathlib.Core.List.{List}
-use Rattle.verdict.specs.declared.Verdict.{Verdict}
-use Rattle.verdict.specs.declared.Verdict.the-variants.{YesForGood, NoForGood, Open}
 use Rattle.verdict.specs.declared.pattern.Judged.{Judged}
 use Rattle.verdict.specs.declared.pattern.Judged.the-variants.{Is, Refused}
 use Rattle.verdict.specs.Judges.{Judges}
-use Rattle.verdict.specs.Means.{Means, answerOf}
+use Rattle.verdict.specs.Means.{answerOf}
 use Rattle.predicates.specs.declared.predicate.Named.{Named}
 use Rattle.predicates.specs.declared.predicate.Named.the-variants as N
 use Rattle.misonkandi.specs.Words.{refusalWord, noSuchRow}
-
-abbrev pub verdictNo : Verdict → ℕ
-verdictNo NoForGood = 0
-verdictNo YesForGood = 1
-verdictNo Open = 2
+pub use Rattle.verdict.specs.Eleven.{verdictNo, Tells}
 
 abbrev pub judgedWord : Judged → ℕ
 judgedWord (Is v) = verdictNo v
 judgedWord (Refused r) = refusalWord r
 
--- a word tells the verdict of an answer
-pub record Tells (w : ℕ) (answer : List ℕ → Bool) (ns : List ℕ) : Type 0 where
-  pub verdict : Verdict
-  pub word : w ≡ verdictNo verdict
-  pub means : Means verdict answer ns
-
--- of the predicate with a number, if there is one
+-- a word tells the verdict of the predicate with a number, if there is one
 abbrev pub TellsAt : Named → ℕ → List ℕ → Type 0
 TellsAt N.Nothing w ns = w ≡ noSuchRow
 TellsAt (N.Is p) w ns = Tells w (answerOf p) ns

@@ -2,7 +2,6 @@
 -- document 01's number plus its place; one word more says that the table has no such row; and a refused call leaves the bytes
 -- that it was lent. That no two answers have one word is proofs/LawsTold.antt.
 use Prim.Native.Nat.{ℕ, _+_, _*_}
-use mathlib.Core.Bool.{Bool, true, false}
 use mathlib.Core.List.{List}
 use Rattle.de9im.specs.declared.answer.CellsAnswer.{CellsAnswer}
 use Rattle.de9im.specs.declared.answer.Checked.{Checked}
@@ -11,10 +10,7 @@ use Rattle.de9im.specs.declared.patterns.Matched.{Matched}
 use Rattle.de9im.specs.declared.patterns.Matched.the-variants as M
 use Rattle.de9im.specs.declared.refusal.Refusal.{Refusal}
 use Rattle.de9im.specs.Refused.{numberOf, placeOf, spotNo}
-
-abbrev pub bitOf : Bool → ℕ
-bitOf true = 1
-bitOf false = 0
+pub use Rattle.predicates.specs.Eleven.{bitOf}
 
 -- the one word of a refusal
 abbrev pub refusalWord : Refusal → ℕ

@@ -7,6 +7,7 @@ pub mod outlines;
 pub mod places;
 pub mod records;
 pub mod reports;
+pub mod rooms;
 pub mod rows;
 pub mod shapes;
 pub mod stars;
@@ -16,11 +17,9 @@ pub mod words;
 use crate::changes::How;
 use crate::changes::put_change;
 use crate::rows::NO_SUCH_ROW;
-use crate::rows::from_four;
 use crate::rows::row;
 use crate::words::matched_word;
 use crate::words::put_cells;
-use crate::words::with_bit;
 use de9im::cells::from_cells;
 use de9im::cells::to_cells;
 use de9im::intersection_matrix::transposed;
@@ -28,16 +27,19 @@ use de9im::patterns::matches;
 use de9im::text::from_str;
 use de9im::text::set_at_least_from_string;
 use de9im::text::to_text;
-use predicates::predicate;
+use predicates::eleven::answers;
+use predicates::eleven::bit;
 use predicates::predicate::Named;
+use predicates::predicate::ask;
 ghost use mathlib.Core.Path.{_≡_};
 ghost use Rattle.de9im.specs.Cells.{matrixOf, cellsOf};
 ghost use Rattle.de9im.specs.Dimension.{dimOf};
 ghost use Rattle.de9im.specs.Matrix.{transposedOf};
 ghost use Rattle.de9im.specs.Patterns.{matchesOf};
 ghost use Rattle.de9im.specs.Text.{readOf, raisedFrom, textOf};
+ghost use Rattle.predicates.specs.Eleven.{answersOf};
 ghost use Rattle.misonkandi.specs.Changes.{pairOf, changedWord, changedCells};
-ghost use Rattle.misonkandi.specs.Rows.{answersOf, numberedOf, answerAt};
+ghost use Rattle.misonkandi.specs.Rows.{numberedOf, answerAt};
 ghost use Rattle.misonkandi.specs.Words.{matchedWord, checkedWord, cellsAfter};
 
 // All eleven answers as bits, the table's first row lowest.
@@ -45,11 +47,7 @@ ghost use Rattle.misonkandi.specs.Words.{matchedWord, checkedWord, cells
 pub extern "C" fn misonkandi_predicates(cells: &[u8; 9]) -> u32
     ensures { λ r. ⌜ r ≡ answersOf (matrixOf (now (cells .entry))) ⌝ }
 {
-    let m = from_cells(*cells);
-    let k3 = with_bit(predicate::is_contains(m), from_four(m));
-    let k2 = with_bit(predicate::is_within(m), k3);
-    let k1 = with_bit(predicate::is_intersects(m), k2);
-    with_bit(predicate::is_disjoint(m), k1)
+    answers(*cells)
 }
 
 // One answer, if the table has the row.
@@ -60,7 +58,7 @@ pub extern "C" fn misonkandi_predicate(cells: &[u8; 9], which: u32) -> u32
     let Named::Is(p) = row(which) else {
         return NO_SUCH_ROW;
     };
-    with_bit(predicate::ask(p, from_cells(*cells)), 0)
+    bit(ask(p, from_cells(*cells)))
 }
 
 #[no_mangle]

@@ -1,16 +1,10 @@
 // A predicate by its row in document 01's table, from 0, and the row by its name.
-use crate::words::with_bit;
-use de9im::intersection_matrix::IntersectionMatrix;
 use predicates::names::named;
-use predicates::predicate;
 use predicates::predicate::Named;
 use predicates::predicate::Predicate;
 ghost use mathlib.Core.Path.{_≡_};
-ghost use Prim.Native.Nat.{_<_};
-ghost use lib.ListN.{drop};
 ghost use Rattle.predicates.specs.Names.{namedOf};
-ghost use Rattle.predicates.specs.Predicates.{allPredicates};
-ghost use Rattle.misonkandi.specs.Rows.{answersFrom, numberedOf, rowNo, namedWord};
+ghost use Rattle.misonkandi.specs.Rows.{numberedOf, rowNo, namedWord};
 
 // What is answered where the table has no such row.
 pub(crate) const NO_SUCH_ROW: u32 = 4294967295;
@@ -32,25 +26,6 @@ pub(crate) fn row(which: u32) -> Named
         10 => Named::Is(Predicate::Overlaps),
         _ => Named::Nothing,
     }
-}
-
-// The answers from row 8 on as bits, that row lowest.
-fn from_eight(m: IntersectionMatrix) -> u32
-    ensures { λ r. ⌜ (r ≡ answersFrom (drop 8 allPredicates) m) × (r < 8) ⌝ }
-{
-    let k10 = with_bit(predicate::is_overlaps(m), 0);
-    let k9 = with_bit(predicate::is_crosses(m), k10);
-    with_bit(predicate::is_touches(m), k9)
-}
-
-// From row 4 on.
-pub(crate) fn from_four(m: IntersectionMatrix) -> u32
-    ensures { λ r. ⌜ (r ≡ answersFrom (drop 4 allPredicates) m) × (r < 128) ⌝ }
-{
-    let k7 = with_bit(predicate::is_contains_properly(m), from_eight(m));
-    let k6 = with_bit(predicate::is_covers(m), k7);
-    let k5 = with_bit(predicate::is_coveredby(m), k6);
-    with_bit(predicate::is_equal_topo(m), k5)
 }
 
 fn row_number(p: Predicate) -> u32

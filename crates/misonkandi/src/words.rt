@@ -7,24 +7,10 @@ use de9im::refusal::Spot;
 use de9im::refusal::number;
 use de9im::refusal::place;
 ghost use mathlib.Core.Path.{_≡_};
-ghost use Prim.Native.Nat.{_+_, _*_, _≤_, _<_};
+ghost use Prim.Native.Nat.{_<_};
 ghost use Rattle.de9im.specs.Answers.{checkedPlace, matchedPlace};
 ghost use Rattle.de9im.specs.Refused.{placeOf, spotNo};
-ghost use Rattle.misonkandi.specs.Words.{bitOf, refusalWord, matchedWord, checkedWord, cellsAfter};
-
-fn bit(b: bool) -> u32
-    ensures { λ r. ⌜ (r ≡ bitOf b) × (r ≤ 1) ⌝ }
-{
-    if b { 1 } else { 0 }
-}
-
-// A bit below those of rest.
-pub(crate) fn with_bit(b: bool, rest: u32) -> u32
-    requires { ⌜ rest < 65536 ⌝ }
-    ensures { λ r. ⌜ (r ≡ bitOf b + 2 * rest) × (r ≤ 1 + 2 * rest) ⌝ }
-{
-    bit(b) + 2 * rest
-}
+ghost use Rattle.misonkandi.specs.Words.{refusalWord, matchedWord, checkedWord, cellsAfter};
 
 fn spot_number(s: Spot) -> u32
     requires { ⌜ spotNo s < 9 ⌝ }

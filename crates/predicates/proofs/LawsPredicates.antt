@@ -1,7 +1,7 @@
 -- Laws of the predicates' definitions. Assumes nothing.
 use Prim.Native.Nat.{ℕ}
 use mathlib.Core.Path.{_≡_, refl, sym, subst, _∙_}
-use mathlib.Core.Bool.{Bool, true, false, not, _&&_, _||_, and-true}
+use mathlib.Core.Bool.{true}
 use mathlib.Core.List.{List}
 use native.Mathlib.Omega.{arith}
 use borrow.Author.Tests.{eq-eqb, eqb-true}
@@ -14,39 +14,12 @@ use Rattle.de9im.specs.declared.«coordinate_position».CoordPos.the-variants.{
 use Rattle.de9im.specs.Dimension.{dimNo}
 use Rattle.de9im.specs.Letters.{letterOf, agreeLetter}
 use Rattle.de9im.specs.Matrix.{Matrix, cellOf, startMatrix}
-use Rattle.de9im.specs.Cells.{numberAt, cellsOf}
+use Rattle.de9im.specs.Cells.{cellsOf}
 use Rattle.de9im.specs.Patterns.{agreeAll}
-use Rattle.predicates.specs.declared.filled.Filled.{Filled}
-use Rattle.predicates.specs.Predicates.{isF, fits}
-use Rattle.predicates.specs.Inner.Filled.{filledOf}
+use Rattle.predicates.specs.Predicates.{fits}
 use Rattle.de9im.specs.Text.{byteOf, textOf}
 use Rattle.de9im.proofs.LawsForms.{nine-cases}
 use Rattle.de9im.proofs.LawsMatches.{agree-each}
-
--- none of eight fails, and a ninth holds: all nine hold
-pub all-nine : (a b c d e f g h k : Bool)
-    → (not (not a || not b || not c || not d || not e || not f || not g || not h) && k) ≡
-    (a && (b && (c && (d && (e && (f && (g && (h && k))))))))
-all-nine false b c d e f g h k = refl
-all-nine true false c d e f g h k = refl
-all-nine true true false d e f g h k = refl
-all-nine true true true false e f g h k = refl
-all-nine true true true true false f g h k = refl
-all-nine true true true true true false g h k = refl
-all-nine true true true true true true false h k = refl
-all-nine true true true true true true true false k = refl
-all-nine true true true true true true true true k = refl
-
--- a cell other than the last is met
-abbrev pub met : Filled → Bool
-met t = t .ii || t .ib || t .ie || t .bi || t .bb || t .be || t .ei || t .eb
-
--- none of those is, and the last is 2
-pub start-is : (m : Matrix) → (not (met (filledOf m)) && eqb (numberAt m E E) 3) ≡ fits "FFFFFFFF2" m
-unfolding agreeAll letterOf
-start-is m =
-    simp and-true
-    (all-nine (isF m I I) (isF m I B) (isF m I E) (isF m B I) (isF m B B) (isF m B E) (isF m E I) (isF m E B) (eqb (numberAt m E E) 3))
 
 -- a matrix text, taken as a pattern, is exact in each letter
 exact-letter : (d : Dimensions) (n : ℕ) → agreeLetter (letterOf (byteOf (dimNo d))) n ≡ eqb n (dimNo d)

@@ -1,14 +1,11 @@
 // The eleven predicates, under the crate's names, and one enum to ask any of them.
-use crate::filled::filled_of;
-use de9im::dimensions;
-use de9im::dimensions::Dimensions;
-use de9im::dimensions::number;
+use crate::terms::Terms;
+use crate::terms::terms_in;
 use de9im::intersection_matrix::IntersectionMatrix;
 ghost use mathlib.Core.Path.{_≡_};
-ghost use Prim.Native.Nat.{max};
-ghost use Rattle.de9im.specs.Dimension.{dimNo};
 ghost use Rattle.predicates.specs.declared.predicate.Predicate.the-variants as P;
-ghost use Rattle.predicates.specs.Predicates.{fits, holds};
+ghost use Rattle.predicates.specs.Predicates.{holds};
+ghost use Rattle.predicates.specs.Inner.Terms.{askedOf, inPoints};
 
 pub enum Predicate {
     Disjoint,
@@ -30,127 +27,118 @@ pub enum Named {
     Nothing,
 }
 
-pub fn is_disjoint(m: IntersectionMatrix) -> bool
-    ensures { λ r. ⌜ r ≡ holds P.Disjoint m ⌝ }
+// Two lines that meet in points: a is 1, and II is 0.
+fn in_points(t: Terms) -> bool
+    ensures { λ r. ⌜ r ≡ inPoints t ⌝ }
 {
-    let t = filled_of(m);
-    !t.ii & !t.ib & !t.bi & !t.bb
+    (t.a == 2) & (t.inside == 1)
 }
 
-pub fn is_intersects(m: IntersectionMatrix) -> bool
-    ensures { λ r. ⌜ r ≡ holds P.Intersects m ⌝ }
+// a below b and `T*T******`; a above b and `T*****T**`; both 1 and II is 0. In all three II is not F.
+fn crosses(t: Terms) -> bool
+    ensures { λ r. ⌜ r ≡ askedOf P.Crosses t ⌝ }
 {
-    !is_disjoint(m)
+    let points = in_points(t);
+    t.ii & (((t.a < t.b) & t.ie) | ((t.b < t.a) & t.ei) | ((t.a == t.b) & points))
 }
 
-pub fn is_within(m: IntersectionMatrix) -> bool
-    ensures { λ r. ⌜ r ≡ holds P.Within m ⌝ }
+// Both 1 and `1*T***T**`; both 0, or both 2, and `T*T***T**`. So a and b are alike, and II is 1 where both are.
+fn overlaps(t: Terms) -> bool
+    ensures { λ r. ⌜ r ≡ askedOf P.Overlaps t ⌝ }
 {
-    let t = filled_of(m);
-    t.ii & (!t.ie & !t.be)
+    let points = in_points(t);
+    t.ii & t.ie & t.ei & (t.a == t.b) & !points
 }
 
-pub fn is_contains(m: IntersectionMatrix) -> bool
-    ensures { λ r. ⌜ r ≡ holds P.Contains m ⌝ }
+// Document 01's table, row by row. Any two empty geometries are topologically equal: hence equal_topo's first alternative.
+pub(crate) fn asked(p: Predicate, t: Terms) -> bool
+    ensures { λ r. ⌜ r ≡ askedOf p t ⌝ }
 {
-    let t = filled_of(m);
-    t.ii & (!t.ei & !t.eb)
-}
-
-// The start matrix, FFFFFFFF2.
-fn is_start(m: IntersectionMatrix) -> bool
-    ensures { λ r. ⌜ r ≡ fits "FFFFFFFF2" m ⌝ }
-{
-    let t = filled_of(m);
-    let met = t.ii | t.ib | t.ie | t.bi | t.bb | t.be | t.ei | t.eb;
-    !met & (number(m[2][2]) == 3)
-}
-
-// Any two empty geometries are topologically equal: hence the first alternative.
-pub fn is_equal_topo(m: IntersectionMatrix) -> bool
-    ensures { λ r. ⌜ r ≡ holds P.EqualTopo m ⌝ }
-{
-    let t = filled_of(m);
-    is_start(m) | (t.ii & (!t.ie & (!t.be & (!t.ei & !t.eb))))
-}
-
-pub fn is_coveredby(m: IntersectionMatrix) -> bool
-    ensures { λ r. ⌜ r ≡ holds P.CoveredBy m ⌝ }
-{
-    let t = filled_of(m);
-    (t.ii & (!t.ie & !t.be))
-        | (t.ib & (!t.ie & !t.be))
-        | (!t.ie & (t.bi & !t.be))
-        | (!t.ie & (t.bb & !t.be))
-}
-
-pub fn is_covers(m: IntersectionMatrix) -> bool
-    ensures { λ r. ⌜ r ≡ holds P.Covers m ⌝ }
-{
-    let t = filled_of(m);
-    (t.ii & (!t.ei & !t.eb))
-        | (t.ib & (!t.ei & !t.eb))
-        | (t.bi & (!t.ei & !t.eb))
-        | (t.bb & (!t.ei & !t.eb))
-}
-
-pub fn is_contains_properly(m: IntersectionMatrix) -> bool
-    ensures { λ r. ⌜ r ≡ holds P.ContainsProperly m ⌝ }
-{
-    let t = filled_of(m);
-    t.ii & (!t.bi & (!t.bb & (!t.ei & !t.eb)))
-}
-
-pub fn is_touches(m: IntersectionMatrix) -> bool
-    ensures { λ r. ⌜ r ≡ holds P.Touches m ⌝ }
-{
-    let t = filled_of(m);
-    (!t.ii & t.ib) | (!t.ii & t.bi) | (!t.ii & t.bb)
-}
-
-fn largest(d: Dimensions, e: Dimensions, f: Dimensions) -> u8
-    ensures { λ r. ⌜ r ≡ max (max (dimNo d) (dimNo e)) (dimNo f) ⌝ }
-{
-    number(dimensions::max(dimensions::max(d, e), f))
-}
-
-pub fn is_crosses(m: IntersectionMatrix) -> bool
-    ensures { λ r. ⌜ r ≡ holds P.Crosses m ⌝ }
-{
-    let t = filled_of(m);
-    let a = largest(m[0][0], m[0][1], m[0][2]);
-    let b = largest(m[0][0], m[1][0], m[2][0]);
-    let ii = number(m[0][0]);
-    ((a < b) & (t.ii & t.ie)) | ((b < a) & (t.ii & t.ei)) | ((a == 2) & (b == 2) & (ii == 1))
-}
-
-pub fn is_overlaps(m: IntersectionMatrix) -> bool
-    ensures { λ r. ⌜ r ≡ holds P.Overlaps m ⌝ }
-{
-    let t = filled_of(m);
-    let a = largest(m[0][0], m[0][1], m[0][2]);
-    let b = largest(m[0][0], m[1][0], m[2][0]);
-    let ii = number(m[0][0]);
-    let lines = (a == 2) & (b == 2);
-    let alike = ((a == 1) & (b == 1)) | ((a == 3) & (b == 3));
-    (lines & ((ii == 2) & (t.ie & t.ei))) | (alike & (t.ii & (t.ie & t.ei)))
+    match p {
+        Predicate::Disjoint => t.apart,
+        Predicate::Intersects => !t.apart,
+        Predicate::Within => t.ii & t.inner,
+        Predicate::Contains => t.ii & t.outer,
+        Predicate::EqualTopo => (t.apart & t.inner & t.outer & t.plane)
+            | (t.ii & t.inner & t.outer),
+        Predicate::CoveredBy => !t.apart & t.inner,
+        Predicate::Covers => !t.apart & t.outer,
+        Predicate::ContainsProperly => t.ii & t.outer & t.clear,
+        Predicate::Touches => !t.ii & !t.apart,
+        Predicate::Crosses => crosses(t),
+        Predicate::Overlaps => overlaps(t),
+    }
 }
 
 // Asks any of the eleven.
 pub fn ask(p: Predicate, m: IntersectionMatrix) -> bool
     ensures { λ r. ⌜ r ≡ holds p m ⌝ }
 {
-    match p {
-        Predicate::Disjoint => is_disjoint(m),
-        Predicate::Intersects => is_intersects(m),
-        Predicate::Within => is_within(m),
-        Predicate::Contains => is_contains(m),
-        Predicate::EqualTopo => is_equal_topo(m),
-        Predicate::CoveredBy => is_coveredby(m),
-        Predicate::Covers => is_covers(m),
-        Predicate::ContainsProperly => is_contains_properly(m),
-        Predicate::Touches => is_touches(m),
-        Predicate::Crosses => is_crosses(m),
-        Predicate::Overlaps => is_overlaps(m),
-    }
+    asked(p, terms_in(m))
+}
+
+pub fn is_disjoint(m: IntersectionMatrix) -> bool
+    ensures { λ r. ⌜ r ≡ holds P.Disjoint m ⌝ }
+{
+    ask(Predicate::Disjoint, m)
+}
+
+pub fn is_intersects(m: IntersectionMatrix) -> bool
+    ensures { λ r. ⌜ r ≡ holds P.Intersects m ⌝ }
+{
+    ask(Predicate::Intersects, m)
+}
+
+pub fn is_within(m: IntersectionMatrix) -> bool
+    ensures { λ r. ⌜ r ≡ holds P.Within m ⌝ }
+{
+    ask(Predicate::Within, m)
+}
+
+pub fn is_contains(m: IntersectionMatrix) -> bool
+    ensures { λ r. ⌜ r ≡ holds P.Contains m ⌝ }
+{
+    ask(Predicate::Contains, m)
+}
+
+pub fn is_equal_topo(m: IntersectionMatrix) -> bool
+    ensures { λ r. ⌜ r ≡ holds P.EqualTopo m ⌝ }
+{
+    ask(Predicate::EqualTopo, m)
+}
+
+pub fn is_coveredby(m: IntersectionMatrix) -> bool
+    ensures { λ r. ⌜ r ≡ holds P.CoveredBy m ⌝ }
+{
+    ask(Predicate::CoveredBy, m)
+}
+
+pub fn is_covers(m: IntersectionMatrix) -> bool
+    ensures { λ r. ⌜ r ≡ holds P.Covers m ⌝ }
+{
+    ask(Predicate::Covers, m)
+}
+
+pub fn is_contains_properly(m: IntersectionMatrix) -> bool
+    ensures { λ r. ⌜ r ≡ holds P.ContainsProperly m ⌝ }
+{
+    ask(Predicate::ContainsProperly, m)
+}
+
+pub fn is_touches(m: IntersectionMatrix) -> bool
+    ensures { λ r. ⌜ r ≡ holds P.Touches m ⌝ }
+{
+    ask(Predicate::Touches, m)
+}
+
+pub fn is_crosses(m: IntersectionMatrix) -> bool
+    ensures { λ r. ⌜ r ≡ holds P.Crosses m ⌝ }
+{
+    ask(Predicate::Crosses, m)
+}
+
+pub fn is_overlaps(m: IntersectionMatrix) -> bool
+    ensures { λ r. ⌜ r ≡ holds P.Overlaps m ⌝ }
+{
+    ask(Predicate::Overlaps, m)
 }

@@ -5,6 +5,7 @@ use crate::floor_calls;
 use crate::matrix_calls;
 use crate::outline_calls;
 use crate::plan_calls;
+use crate::room_calls;
 use crate::shape_calls;
 ghost use mathlib.Core.Path.{_≡_};
 ghost use Prim.Native.Nat.{_+_, _≤_, _<_};
@@ -52,7 +53,7 @@ pub(crate) fn decoded(digits: &[u8]) -> Case {
     out
 }
 
-fn wide(x: u8) -> u32
+pub(crate) fn wide(x: u8) -> u32
     ensures { λ r. ⌜ r < 256 ⌝ }
 {
     x as u32
@@ -89,8 +90,8 @@ fn count(c: Case) -> usize
     least((256 * wide(c[22]) + wide(c[23])) as usize, 600)
 }
 
-// How many bytes a call may write: a label, a star's labels, cells and two answers, a text's answers and numbers, a buffer within n
-// bytes, or nine cells or letters.
+// How many bytes a call may write: a label, a star's labels, cells and two answers, a text's answers and numbers, eleven verdicts, a
+// buffer within n bytes, or nine cells or letters.
 fn room(letter: u8, n: usize) -> usize
     requires { ⌜ n ≤ 600 ⌝ }
     ensures { λ r. ⌜ n + r ≤ 1256 ⌝ }
@@ -100,6 +101,7 @@ fn room(letter: u8, n: usize) -> usize
         b'K' => 224,
         b'A' | b'Y' => 25,
         b'J' => 536,
+        b'v' => 11,
         b'U' | b'Z' => n,
         b'E' | b'F' | b'C' => least(n, 100),
         _ => 9,
@@ -130,6 +132,9 @@ fn asked(letter: u8, h: Head, given: &[u8], due: &[u8]) -> bool {
         b'D' => plan_calls::read_report(h, given, due),
         b'I' => outline_calls::point_in_outline(h, given),
         b'J' => shape_calls::read_wkt(h, given, due),
+        b'm' => room_calls::masks(h, given),
+        b'p' => room_calls::packed(h, due),
+        b'v' => room_calls::verdicts(h, due),
         _ => false,
     }
 }

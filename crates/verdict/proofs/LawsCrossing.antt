@@ -1,39 +1,17 @@
 -- Crosses and overlaps by the numbers a and b, the largest of II, IB, IE and of II, BI, EI. Assumes nothing.
-use Prim.Native.Nat.{_≤_, _<_, max}
-use mathlib.Core.Path.{_≡_, refl, sym}
-use mathlib.Core.Bool.{Bool, true, false, _||_, and-false}
+use Prim.Native.Nat.{_≤_, _<_}
+use mathlib.Core.Path.{_≡_}
+use mathlib.Core.Bool.{true, false, and-false}
 use native.Mathlib.Omega.{arith}
-use borrow.Author.Tests.{lt-ltb, le-ltb, eq-eqb, ne-eqb, eqb-true, eqb-false}
+use borrow.Author.Tests.{lt-ltb, le-ltb, ne-eqb}
 use lib.Dec.{eqb}
 use Rattle.de9im.specs.declared.«coordinate_position».CoordPos.the-variants.{Inside as I, Outside as E}
 use Rattle.predicates.specs.declared.predicate.Predicate.the-variants.{Crosses, Overlaps}
-use Rattle.de9im.specs.declared.dimensions.Dimensions.{Dimensions}
 use Rattle.de9im.specs.Cells.{numberAt}
-use Rattle.de9im.specs.Dimension.{dimNo}
 use Rattle.de9im.specs.Letters.{letterOf}
 use Rattle.de9im.specs.Matrix.{Matrix}
 use Rattle.de9im.specs.Patterns.{agreeAll}
 use Rattle.predicates.specs.Predicates.{holds, firstDim, secondDim}
-use Rattle.de9im.proofs.LawsDimension.{dim-small}
-
--- the largest of three is 2 exactly when one of them is
-pub any-area : (d e f : Dimensions)
-    → (eqb (dimNo d) 3 || eqb (dimNo e) 3 || eqb (dimNo f) 3) ≡ eqb (max (max (dimNo d) (dimNo e)) (dimNo f)) 3
-any-area d e f = go (eqb (dimNo d) 3) (eqb (dimNo e) 3) (eqb (dimNo f) 3) refl refl refl
-  where
-    three : 3 ≤ max (max (dimNo d) (dimNo e)) (dimNo f) → true ≡ eqb (max (max (dimNo d) (dimNo e)) (dimNo f)) 3
-    three h = sym (eq-eqb (max (max (dimNo d) (dimNo e)) (dimNo f)) 3 (omega (arith, dim-small d, dim-small e, dim-small f)))
-
-    go : (t u v : Bool) → eqb (dimNo d) 3 ≡ t → eqb (dimNo e) 3 ≡ u → eqb (dimNo f) 3 ≡ v
-        → (t || u || v) ≡ eqb (max (max (dimNo d) (dimNo e)) (dimNo f)) 3
-    go true u v x y z = three (omega (arith, eqb-true (dimNo d) 3 x))
-    go false true v x y z = three (omega (arith, eqb-true (dimNo e) 3 y))
-    go false false true x y z = three (omega (arith, eqb-true (dimNo f) 3 z))
-    go false false false x y z =
-        let a = eqb-false (dimNo d) 3 x in
-        let b = eqb-false (dimNo e) 3 y in
-        let c = eqb-false (dimNo f) 3 z in
-        sym (ne-eqb (max (max (dimNo d) (dimNo e)) (dimNo f)) 3 (λ w. omega arith))
 
 module _ (m : Matrix) where
   pub crosses-below : firstDim m < secondDim m → 0 < numberAt m I I → 0 < numberAt m I E → holds Crosses m ≡ true

@@ -29,7 +29,10 @@ use Rattle.de9im.specs.Dimension.{dimNo, dimOf}
 use Rattle.de9im.specs.Letters.{letterOf}
 use Rattle.de9im.specs.Matrix.{Matrix}
 use Rattle.de9im.specs.Patterns.{agreeAll}
+use Rattle.predicates.specs.declared.terms.Terms.{Terms}
 use Rattle.predicates.specs.Predicates.{holds, isF, both, disjoint, firstDim, secondDim}
+use Rattle.predicates.specs.Inner.Terms.{termsOf}
+use Rattle.predicates.proofs.LawsTerms.{terms-again, row}
 use Rattle.de9im.specs.Text.{nine}
 use Rattle.de9im.proofs.LawsDimension.{dim-back, dim-small, number-back}
 use Rattle.de9im.proofs.LawsForms.{nine-at}
@@ -146,17 +149,17 @@ module _ (ns : List ℕ) where
       (closed Disjoint 3 (omega arith) (λ ts f. simp (f, and-false))))
       (closed Disjoint 4 (omega arith) (λ ts f. simp (f, and-false)))
 
-  disjoint-sound : Means (verdictOf Disjoint m) (answerOf Disjoint) ns
+  disjoint-sound : Means (verdictOf Disjoint (termsOf m)) (answerOf Disjoint) ns
   unfolding holds
   disjoint-sound =
-      by-test (answerOf Disjoint) Open NoForGood (disjoint m) (disjoint m) refl (λ e. opens Disjoint none (only 0) (simp dim-back e) refl)
+      by-test (answerOf Disjoint) Open NoForGood (disjoint m) (termsOf m .apart) (row Disjoint m) (λ e. opens Disjoint none (only 0) (simp dim-back e) refl)
       apart-closed
 
   -- intersects is its contrary: yes for good where disjoint is no
-  intersects-sound : Means (verdictOf Intersects m) (answerOf Intersects) ns
+  intersects-sound : Means (verdictOf Intersects (termsOf m)) (answerOf Intersects) ns
   unfolding holds
   intersects-sound =
-      by-test (answerOf Intersects) Open YesForGood (disjoint m) (disjoint m) refl
+      by-test (answerOf Intersects) Open YesForGood (disjoint m) (termsOf m .apart) (row Disjoint m)
       (λ e. opens Intersects (only 0) none refl (simp (dim-back, e)))
       (λ e s b r. ap not (apart-closed e s b r))
 
@@ -175,31 +178,31 @@ module _ (ns : List ℕ) where
         (λ e. opens p (only 0) (only j) (y (and-left x z e) (and-right x z e)) (f (lifted (only j) ns) (lifted-here j h)))
         closed-two
 
-  within-sound : Means (verdictOf Within m) (answerOf Within) ns
+  within-sound : Means (verdictOf Within (termsOf m)) (answerOf Within) ns
   unfolding holds agreeAll letterOf
   within-sound =
       two-sound Within 2 5 (omega arith) (omega arith) (λ ts f. simp (f, and-false)) (λ ts f. simp (f, and-false))
       (λ e f. simp (dim-back, e, f))
 
-  contains-sound : Means (verdictOf Contains m) (answerOf Contains) ns
+  contains-sound : Means (verdictOf Contains (termsOf m)) (answerOf Contains) ns
   unfolding holds agreeAll letterOf
   contains-sound =
       two-sound Contains 6 7 (omega arith) (omega arith) (λ ts f. simp (f, and-false)) (λ ts f. simp (f, and-false))
       (λ e f. simp (dim-back, e, f))
 
-  covered-sound : Means (verdictOf CoveredBy m) (answerOf CoveredBy) ns
+  covered-sound : Means (verdictOf CoveredBy (termsOf m)) (answerOf CoveredBy) ns
   unfolding holds agreeAll letterOf
   covered-sound =
       two-sound CoveredBy 2 5 (omega arith) (omega arith) (λ ts f. simp (f, and-false)) (λ ts f. simp (f, and-false))
       (λ e f. simp (dim-back, e, f))
 
-  covers-sound : Means (verdictOf Covers m) (answerOf Covers) ns
+  covers-sound : Means (verdictOf Covers (termsOf m)) (answerOf Covers) ns
   unfolding holds agreeAll letterOf
   covers-sound =
       two-sound Covers 6 7 (omega arith) (omega arith) (λ ts f. simp (f, and-false)) (λ ts f. simp (f, and-false))
       (λ e f. simp (dim-back, e, f))
 
-  equal-sound : Means (verdictOf EqualTopo m) (answerOf EqualTopo) ns
+  equal-sound : Means (verdictOf EqualTopo (termsOf m)) (answerOf EqualTopo) ns
   unfolding holds agreeAll letterOf
   equal-sound =
       by-test (answerOf EqualTopo) Open NoForGood (inner m && outer m) (inner m && outer m) refl
@@ -212,7 +215,7 @@ module _ (ns : List ℕ) where
       (closed-two EqualTopo 2 5 (omega arith) (omega arith) (λ ts f. simp (f, and-false)) (λ ts f. simp (f, and-false)))
       (closed-two EqualTopo 6 7 (omega arith) (omega arith) (λ ts f. simp (f, and-false)) (λ ts f. simp (f, and-false))))
 
-  properly-sound : Means (verdictOf ContainsProperly m) (answerOf ContainsProperly) ns
+  properly-sound : Means (verdictOf ContainsProperly (termsOf m)) (answerOf ContainsProperly) ns
   unfolding holds agreeAll letterOf
   properly-sound =
       by-test (answerOf ContainsProperly) Open NoForGood (clear m && outer m) (clear m && outer m) refl
@@ -225,12 +228,12 @@ module _ (ns : List ℕ) where
       (closed-two ContainsProperly 3 4 (omega arith) (omega arith) (λ ts f. simp (f, and-false)) (λ ts f. simp (f, and-false)))
       (closed-two ContainsProperly 6 7 (omega arith) (omega arith) (λ ts f. simp (f, and-false)) (λ ts f. simp (f, and-false))))
 
-  touches-sound : Means (verdictOf Touches m) (answerOf Touches) ns
+  touches-sound : Means (verdictOf Touches (termsOf m)) (answerOf Touches) ns
   unfolding holds agreeAll letterOf
   touches-sound =
-      by-test (answerOf Touches) Open NoForGood (isF m I I) (isF m I I) refl
-      (λ e. opens Touches (only 1) (only 0) (simp (dim-back, e)) refl)
-      (closed Touches 0 (omega arith) (λ ts f. simp f))
+      by-test (answerOf Touches) NoForGood Open (not (isF m I I)) (not (isF m I I)) refl
+      (λ e. closed Touches 0 (omega arith) (λ ts f. simp f) (not-true (isF m I I) e))
+      (λ e. opens Touches (only 1) (only 0) (simp (dim-back, not-false (isF m I I) e)) refl)
 
   -- a and b of the numbers above: 2 stays 2
   first-stays : (ts : List ℕ) → Above ns ts → firstDim m ≡ 3 → firstDim (matrixOf ts) ≡ 3
@@ -295,7 +298,7 @@ module _ (ns : List ℕ) where
       (omega (arith, same (getD ns 3 0))) (some-below 6 (omega arith)))
       (some-pos 0) (some-pos 6)
 
-  crosses-sound : Means (verdictOf Crosses m) (answerOf Crosses) ns
+  crosses-sound : Means (verdictOf Crosses (termsOf m)) (answerOf Crosses) ns
   crosses-sound =
       by-test (answerOf Crosses) NoForGood Open (both TwoDimensional m) (both TwoDimensional m) refl
       (λ e. always (holds Crosses) false ns
@@ -357,13 +360,13 @@ module _ (ns : List ℕ) where
       (omega (arith, rise ts a 2 (omega arith)))
       (omega (arith, rise ts a 6 (omega arith))))
 
-  overlaps-sound : Means (verdictOf Overlaps m) (answerOf Overlaps) ns
+  overlaps-sound : Means (verdictOf Overlaps (termsOf m)) (answerOf Overlaps) ns
   overlaps-sound =
       by-test (answerOf Overlaps) YesForGood Open (overlapStays m) (overlapStays m) refl overlaps-stay
       (λ e. record { ends-yes = overlaps-reached; ends-no = overlaps-left e })
 
 -- the table is demand 3's
-pub predicate-sound : (p : Predicate) (ns : List ℕ) → Means (verdictOf p (matrixOf ns)) (answerOf p) ns
+pub predicate-sound : (p : Predicate) (ns : List ℕ) → Means (verdictOf p (termsOf (matrixOf ns))) (answerOf p) ns
 predicate-sound Disjoint ns = disjoint-sound ns
 predicate-sound Intersects ns = intersects-sound ns
 predicate-sound Within ns = within-sound ns
@@ -377,19 +380,5 @@ predicate-sound Crosses ns = crosses-sound ns
 predicate-sound Overlaps ns = overlaps-sound ns
 
 -- a matrix three by three has the table's verdict too
-verdict-back : (p : Predicate) (m : Matrix) → verdictOf p (matrixOf (cellsOf m)) ≡ verdictOf p m
-unfolding holds
-verdict-back Disjoint m = simp dim-back
-verdict-back Intersects m = simp dim-back
-verdict-back Within m = simp dim-back
-verdict-back Contains m = simp dim-back
-verdict-back EqualTopo m = simp dim-back
-verdict-back CoveredBy m = simp dim-back
-verdict-back Covers m = simp dim-back
-verdict-back ContainsProperly m = simp dim-back
-verdict-back Touches m = simp dim-back
-verdict-back Crosses m = simp dim-back
-verdict-back Overlaps m = simp dim-back
-
-pub matrix-sound : (p : Predicate) (m : Matrix) → Means (verdictOf p m) (answerOf p) (cellsOf m)
-matrix-sound p m = subst (λ (v : Verdict). Means v (answerOf p) (cellsOf m)) (verdict-back p m) (predicate-sound p (cellsOf m))
+pub matrix-sound : (p : Predicate) (m : Matrix) → Means (verdictOf p (termsOf m)) (answerOf p) (cellsOf m)
+matrix-sound p m = subst (λ (t : Terms). Means (verdictOf p t) (answerOf p) (cellsOf m)) (terms-again m) (predicate-sound p (cellsOf m))

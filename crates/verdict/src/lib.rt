@@ -1,5 +1,6 @@
 // The early verdict: what a predicate or a pattern will say whatever accepted records still come. Cells only rise, and any
 // cell can be raised to any dimension, so a verdict goes by the cells as they are now.
+pub mod eleven;
 pub(crate) mod letters;
 pub mod pattern;
 pub mod predicate;

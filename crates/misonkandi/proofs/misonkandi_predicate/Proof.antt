@@ -1,7 +1,6 @@
 -- The row of the table, if there is one, and its answer as a bit. Assumes nothing.
 use borrow.Author.Needs.{needs}
 use mathlib.Core.Path.{_≡_, refl, sym, _∙_}
-use native.Mathlib.Nat.{add-zero}
 use Rattle.predicates.specs.declared.predicate.Named.the-variants.{Is}
 use Rattle.misonkandi.specs.Rows.{numberedOf}
 use Rattle.misonkandi.proofs.misonkandi_predicate.Statement.{statement}
@@ -12,7 +11,7 @@ returns-2 c =
     let b = c .before .before .before .before .before in
     let e : numberedOf (b .before .before .before .args .which) ≡ Is (b .p .given .0 .0) = sym
     (b .before .before .row .ensures) ∙ b .p .given .1 in
-    rw e (c .with-bit .ensures .0 ∙ rw (add-zero, c .before .ask .ensures, c .before .before .from-cells .ensures) refl)
+    rw e (c .bit .ensures .0 ∙ rw (c .before .ask .ensures, c .before .before .from-cells .ensures) refl)
 
 pub misonkandi-predicate-spec : {M : Type 1} → statement M
 misonkandi-predicate-spec =

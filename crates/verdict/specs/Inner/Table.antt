@@ -23,7 +23,8 @@ use Rattle.predicates.specs.declared.predicate.Predicate.the-variants.{
 }
 use Rattle.de9im.specs.Dimension.{dimNo}
 use Rattle.de9im.specs.Matrix.{Matrix}
-use Rattle.predicates.specs.Predicates.{isF, both, holds}
+use Rattle.predicates.specs.declared.terms.Terms.{Terms}
+use Rattle.predicates.specs.Predicates.{isF, both}
 use Rattle.verdict.specs.declared.Verdict.{Verdict}
 use Rattle.verdict.specs.declared.Verdict.the-variants.{YesForGood, NoForGood, Open}
 
@@ -67,15 +68,19 @@ clear m = isF m B I && isF m B B
 abbrev pub overlapStays : Matrix → Bool
 overlapStays m = both TwoDimensional m && (not (isF m I I) && (not (isF m I E) && not (isF m E I)))
 
-abbrev pub verdictOf : Predicate → Matrix → Verdict
-verdictOf Disjoint m = cond (holds Disjoint m) Open NoForGood
-verdictOf Intersects m = cond (holds Disjoint m) Open YesForGood
-verdictOf Within m = cond (inner m) Open NoForGood
-verdictOf Contains m = cond (outer m) Open NoForGood
-verdictOf EqualTopo m = cond (inner m && outer m) Open NoForGood
-verdictOf CoveredBy m = cond (inner m) Open NoForGood
-verdictOf Covers m = cond (outer m) Open NoForGood
-verdictOf ContainsProperly m = cond (clear m && outer m) Open NoForGood
-verdictOf Touches m = cond (isF m I I) Open NoForGood
-verdictOf Crosses m = cond (both TwoDimensional m) NoForGood Open
-verdictOf Overlaps m = cond (overlapStays m) YesForGood Open
+-- a and b are both 2
+abbrev pub areas : Terms → Bool
+areas t = eqb (t .a) 3 && eqb (t .b) 3
+
+abbrev pub verdictOf : Predicate → Terms → Verdict
+verdictOf Disjoint t = cond (t .apart) Open NoForGood
+verdictOf Intersects t = cond (t .apart) Open YesForGood
+verdictOf Within t = cond (t .inner) Open NoForGood
+verdictOf Contains t = cond (t .outer) Open NoForGood
+verdictOf EqualTopo t = cond (t .inner && t .outer) Open NoForGood
+verdictOf CoveredBy t = cond (t .inner) Open NoForGood
+verdictOf Covers t = cond (t .outer) Open NoForGood
+verdictOf ContainsProperly t = cond (t .clear && t .outer) Open NoForGood
+verdictOf Touches t = cond (t .ii) NoForGood Open
+verdictOf Crosses t = cond (areas t) NoForGood Open
+verdictOf Overlaps t = cond (areas t && (t .ii && (t .ie && t .ei))) YesForGood Open

@@ -10,6 +10,7 @@ judged-word-spec =
     (λ c. search needs)
     (λ c κs. search needs)
     (λ c. search needs)
+    (λ c. search needs)
     (λ c κs. rw (c .before .j2 .given .1) at (c .before .before .before .pre))
     (λ c. search needs)
     (λ c. simp (c .refusal-word .ensures, c .before .before .j2 .given .1)))

@@ -17,7 +17,7 @@ returns-2 c =
     let b = c .before .before .before .before in
     let e : numberedOf (b .before .before .before .args .which) ≡ Is (b .p .given .0 .0) =
     sym (b .before .before .row .ensures) ∙ b .p .given .1 in
-    rw e (record { verdict = c .before .of-cells .result; word = c .verdict-number .ensures; means = c .before .of-cells .ensures })
+    rw e (record { verdict = c .before .of-cells .result; word = c .number .ensures; means = c .before .of-cells .ensures })
 
 pub misonkandi-verdict-spec : {M : Type 1} → statement M
 misonkandi-verdict-spec =
@@ -29,4 +29,5 @@ misonkandi-verdict-spec =
     returns
     (λ c κs. search needs)
     (λ c κs. search needs)
+    (λ c. search needs)
     returns-2)

@@ -10,5 +10,4 @@ of-cells-spec =
     (tie.spec
     (λ c κs. search needs)
     (λ c κs. search needs)
-    (λ c. let s = c .before .before .args in
-    rw (c .at .ensures, c .before .from-cells .ensures) (predicate-sound (s .p) (s .cells))))
+    (λ c. let s = c .before .before .args in rw (c .at .ensures, c .before .terms-of .ensures) (predicate-sound (s .p) (s .cells))))

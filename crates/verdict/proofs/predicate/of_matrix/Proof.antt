@@ -9,4 +9,5 @@ of-matrix-spec =
     tie.close
     (tie.spec
     (λ c κs. search needs)
-    (λ c. rw (c .at .ensures) (matrix-sound (c .before .args .p) (c .before .args .m))))
+    (λ c κs. search needs)
+    (λ c. let s = c .before .before .args in rw (c .at .ensures, c .before .terms-in .ensures) (matrix-sound (s .p) (s .m))))
