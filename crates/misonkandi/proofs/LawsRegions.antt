@@ -5,6 +5,7 @@ use mathlib.Core.Bool.{Bool, true, false, cond}
 use mathlib.Core.List.{List}
 use native.Mathlib.Omega.{arith}
 use lib.Dec.{eqb}
+use lib.ListN.{length}
 use Rattle.de9im.specs.Answers.{answerPlace}
 use Rattle.de9im.specs.Refused.{spotNo}
 use Rattle.frame.specs.Lent.{wroteOf, writeNo}
@@ -14,26 +15,29 @@ use Rattle.regions.specs.declared.boxes.BoxesRegion.{BoxesRegion}
 use Rattle.regions.specs.declared.boxes.BoxesRegion.the-variants as B
 use Rattle.regions.specs.declared.region.Named.{Named}
 use Rattle.regions.specs.declared.region.Named.the-variants as N
+use Rattle.regions.specs.declared.region.Region.{Region}
 use Rattle.regions.specs.declared.region.Region.the-variants.{NoneOfThese}
 use Rattle.regions.specs.Boxes.{boxesRegion, boxesPlace}
+use Rattle.regions.specs.Names.{nameOf}
 use Rattle.regions.specs.Numbers.{numberOf}
 use Rattle.regions.proofs.LawsBoxes.{never-none}
-use Rattle.regions.proofs.LawsNames.{number-told, number-small}
+use Rattle.regions.proofs.LawsNames.{number-told, number-small, name-short}
 use Rattle.misonkandi.specs.Regions.{boxesWord, namedWord}
 use Rattle.misonkandi.proofs.LawsFit.{none-below}
 use Rattle.misonkandi.proofs.LawsRecords.{Fits}
 use Rattle.misonkandi.proofs.LawsTold.{refusal-told, no-answer}
 
--- a short text's answer fits its word
+-- a name is short, so the answer to writing it fits its word
 at-most : (t : Bool) (n : ℕ) → cond t n 0 ≤ n
 at-most true n = omega arith
 at-most false n = omega arith
 
-pub wrote-fits : (n : ℕ) (buf : List ℕ) (at : ℕ) → n ≤ 13 → Fits (wroteOf n buf at)
-wrote-fits n buf at h = (
-  rw (write-used n buf at) (omega (arith, at-most (eqb (writeNo n buf at) 0) n)),
-  none-below (answerPlace (wroteOf n buf at)) (write-place n buf at),
-)
+pub name-fits : (r : Region) (buf : List ℕ) (at : ℕ) → Fits (wroteOf (length (nameOf r)) buf at)
+name-fits r buf at =
+    let n = length (nameOf r) in (
+      rw (write-used n buf at) (omega (arith, at-most (eqb (writeNo n buf at) 0) n, name-short r)),
+      none-below (answerPlace (wroteOf n buf at)) (write-place n buf at),
+    )
 
 -- two answers with one word are one
 pub boxes-told : (a b : BoxesRegion) → spotNo (boxesPlace a) < 256 → spotNo (boxesPlace b) < 256 → boxesWord a ≡ boxesWord b → a ≡ b

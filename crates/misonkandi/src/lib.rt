@@ -5,7 +5,7 @@ pub mod floors;
 pub mod outlines;
 pub mod places;
 pub mod records;
-pub mod regions;
+pub mod region;
 pub mod reports;
 pub mod rows;
 pub mod shapes;
