@@ -72,7 +72,8 @@ pub fn said(call: &PlanCall) -> Option<PlanSaid> {
         | PlanOp::WriteWkt
         | PlanOp::Floor
         | PlanOp::OneByOne
-        | PlanOp::Pieces => return None,
+        | PlanOp::Pieces
+        | PlanOp::RegionName => return None,
     };
     Some(match answer {
         Some(Ok((word, out))) => PlanSaid::Gave { word, out },

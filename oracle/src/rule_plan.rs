@@ -7,6 +7,7 @@ use crate::ours::shape_room::ShapeRoom;
 use crate::rule::{self, BAD_CODE, refusal};
 use crate::rule_floor;
 use crate::rule_outline;
+use crate::rule_region;
 use crate::rule_report;
 use crate::rule_star::{
     self, Collapsed, LABEL_BYTES, Label, MOST_ENDS, Position, TOO_MANY_ENDS, WRONG_LENGTH,
@@ -19,7 +20,7 @@ pub const BAD_VERSION: u32 = refusal(2);
 pub const BAD_KIND: u32 = refusal(3);
 
 /// The numbers that each function can give: a run that doesn't meet all of them has looked at too little.
-pub const REACHABLE: [(PlanOp, &[u32]); 12] = [
+pub const REACHABLE: [(PlanOp, &[u32]); 13] = [
     (PlanOp::Bundle, &[4, 5, 6, 7, 8]),
     (PlanOp::Star, &[4, 5, 6, 7, 8, 9]),
     (PlanOp::Record, &[1, 2, 3, 4, 5, 6, 7, 8, 9]),
@@ -32,6 +33,7 @@ pub const REACHABLE: [(PlanOp, &[u32]); 12] = [
     (PlanOp::WriteWkt, &[12, 16, 17]),
     (PlanOp::Floor, &[1, 2, 3, 4, 5, 6, 7, 8, 9]),
     (PlanOp::Pieces, &[1, 2, 3, 4, 5, 6, 7, 8, 9]),
+    (PlanOp::RegionName, &[12]),
 ];
 
 /// What a call must answer, and every byte that it was lent, afterwards.
@@ -68,6 +70,10 @@ fn outcome_by(call: &PlanCall, collapsed: Collapsed) -> PlanOutcome {
         },
         PlanOp::Floor | PlanOp::OneByOne => rule_floor::whole(call),
         PlanOp::Pieces => rule_floor::in_pieces(call),
+        PlanOp::RegionName => match rule_region::NAMES.get(call.a as usize) {
+            Some(name) => put(call, name.as_bytes()),
+            None => same(call, rule::NO_SUCH_ROW),
+        },
     }
 }
 

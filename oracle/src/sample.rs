@@ -16,6 +16,7 @@ use crate::sample_floors;
 use crate::sample_line::{self, Case};
 use crate::sample_outlines;
 use crate::sample_plans;
+use crate::sample_regions;
 use crate::sample_reports;
 use crate::sample_verdicts;
 use crate::sample_wkt;
@@ -81,6 +82,14 @@ pub fn main() {
         lines.push_str(head);
         met.extend(sample_plans::write_lines(&mut lines, &calls));
     }
+    lines.push_str(sample_regions::HEAD);
+    for call in sample_regions::calls() {
+        write_line(&mut lines, &call);
+    }
+    met.extend(sample_plans::write_lines(
+        &mut lines,
+        &sample_regions::written(),
+    ));
     sample_plans::check_met(&met);
     print!("{lines}");
 }
@@ -392,6 +401,8 @@ fn letter(op: Op) -> (char, bool) {
         Op::Transpose => ('X', true),
         Op::Verdict => ('V', false),
         Op::VerdictPattern => ('W', false),
+        Op::Region => ('r', false),
+        Op::RegionNamed => ('h', false),
     }
 }
 

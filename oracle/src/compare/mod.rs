@@ -8,6 +8,7 @@ mod outlines;
 mod plan_tally;
 mod predicates;
 mod records;
+mod regions;
 mod reports;
 mod stars;
 mod tally;
@@ -127,6 +128,7 @@ pub fn main() -> i32 {
     wkt_written::compare(&mut run);
     floors::compare(&mut run);
     directions::compare(&mut run);
+    regions::compare(&mut run);
     run.answer_waiting();
     run.tally.report()
 }

@@ -1,5 +1,5 @@
-//! Calls on ends, plan records, stored reports, outlines, shapes' texts and floors: their bytes are of any count, so
-//! they are written down apart.
+//! Calls on ends, plan records, stored reports, outlines, shapes' texts, floors and regions' names: their bytes are of
+//! any count, so they are written down apart.
 //!
 //! What a call is lent stands in one stretch, with guards before, between and after: the bytes that it may write an
 //! answer into (`out`), then the ends, the record, the report, the buffer, the outline's numbers, the text or the floor
@@ -40,6 +40,7 @@ pub enum PlanOp {
     OneByOne = 11,
     /// All calls on a floor that comes in pieces.
     Pieces = 12,
+    RegionName = 40,
 }
 
 impl PlanOp {
@@ -59,6 +60,7 @@ impl PlanOp {
             PlanOp::Floor => "misonkandi_floor",
             PlanOp::OneByOne => "misonkandi_record, one by one",
             PlanOp::Pieces => "misonkandi_finish",
+            PlanOp::RegionName => "misonkandi_region_name",
         }
     }
 }
@@ -72,7 +74,7 @@ pub struct PlanCall {
     /// call.
     pub out: Vec<u8>,
     pub bytes: Vec<u8>,
-    /// The area codes, the bits of the point's x and y, or a shape's kind.
+    /// The area codes, the bits of the point's x and y, a shape's kind, or a region.
     pub a: u32,
     pub b: u32,
     pub offset: u64,
@@ -180,6 +182,16 @@ impl PlanCall {
         }
     }
 
+    pub fn region_name(region: u32, buffer: Vec<u8>, offset: u64) -> Self {
+        PlanCall {
+            op: PlanOp::RegionName,
+            out: Vec::new(),
+            a: region,
+            offset,
+            ..PlanCall::bundle(buffer)
+        }
+    }
+
     /// The numbers of an outline, or of a shape that is written.
     pub fn numbers(&self) -> Vec<i32> {
         match self.op {
@@ -262,7 +274,7 @@ pub(super) fn answer(call: &PlanCall) -> PlanReply {
         let word = read_wkt(call, &mut lent);
         return reply(call, word, &lent);
     }
-    if call.op >= PlanOp::Floor {
+    if matches!(call.op, PlanOp::Floor | PlanOp::OneByOne | PlanOp::Pieces) {
         let word = floor(call, &mut lent);
         return reply(call, word, &lent);
     }
@@ -283,6 +295,7 @@ pub(super) fn answer(call: &PlanCall) -> PlanReply {
         }
         PlanOp::ConvertReport => linked::convert_report(bytes, out, offset),
         PlanOp::WriteWkt => linked::write_wkt(call.a, &numbers(out), bytes, offset),
+        PlanOp::RegionName => linked::region_name(call.a, bytes, offset),
         PlanOp::PointInOutline
         | PlanOp::ReadWkt
         | PlanOp::Floor
