@@ -87,8 +87,8 @@ static void print_odd(void)
 
 static const char *const region_head =
     "# g misonkandi_region_of_boxes: given are x, y, u, v of the first box and of the second, their bytes as for G.\n"
-    "# g: request R-13's patterns on the matrices of GEOS %s, for all pairs of boxes with whole coordinates 0 to 3. Last, by\n"
-    "# document 01 alone: refusal 13.\n";
+    "# g: request R-13's patterns on the matrices of GEOS %s, for all pairs of boxes with whole coordinates\n"
+    "# 0 to 3. Last, by document 01 alone: refusal 13.\n";
 
 static void print_region(const place *a, const place *b, unsigned word)
 {

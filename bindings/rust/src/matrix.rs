@@ -7,8 +7,8 @@ use crate::c;
 use crate::floor::{Floor, floor};
 use crate::positions::{CoordPos, Dimensions};
 use crate::predicate::Predicate;
-use crate::region::Region;
 use crate::refusal::{Refusal, answered};
+use crate::region::Region;
 
 /// A DE-9IM matrix: how interior, boundary and exterior of two geometries meet. It has geo's names and takes the place of
 /// geo's type of the same name; nine bytes, without a pointer.

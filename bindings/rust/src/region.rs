@@ -80,8 +80,8 @@ impl Region {
 
     /// Writes the library's own bytes of the name into a buffer from an offset on, and answers how many they are.
     ///
-    /// Refused: 12 if they don't fit; then no byte differs. Promised: `wroteOf` and `writtenOf` of `nameOf`,
-    /// crates/frame/specs/Lent.antt and crates/regions/specs/Names.antt.
+    /// Refused: 12 if they don't fit; then no byte differs. Promised: `nameOf`, crates/regions/specs/Names.antt, put where
+    /// `writtenOf`, crates/frame/specs/Lent.antt, says.
     pub fn write_name(self, buffer: &mut [u8], offset: usize) -> Result<usize, Refusal> {
         answered(c::region_name(self.number(), buffer, offset)).map(|count| count as usize)
     }

@@ -97,7 +97,11 @@ fn every_two_boxes_have_one_of_the_eight() {
 #[test]
 fn what_is_no_box_is_refused() {
     let good = [0.0, 0.0, 1.0, 1.0];
-    let mut bad = vec![[0.0, 0.0, 0.0, 1.0], [0.0, 2.0, 1.0, 1.0], [0.0, 0.0, -0.0, 1.0]];
+    let mut bad = vec![
+        [0.0, 0.0, 0.0, 1.0],
+        [0.0, 2.0, 1.0, 1.0],
+        [0.0, 0.0, -0.0, 1.0],
+    ];
     for at in 0..4 {
         for value in [f64::NAN, f64::INFINITY, f64::NEG_INFINITY] {
             let mut numbers = good;
@@ -152,7 +156,10 @@ fn names_are_written() {
             }
         }
         let mut buffer = [b'.'; 13];
-        assert_eq!(region.write_name(&mut buffer, usize::MAX), Err(Refusal::NoRoom));
+        assert_eq!(
+            region.write_name(&mut buffer, usize::MAX),
+            Err(Refusal::NoRoom)
+        );
         assert_eq!(buffer, [b'.'; 13]);
     }
 }

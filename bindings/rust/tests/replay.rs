@@ -130,7 +130,9 @@ fn region_case(kind: char, case: &Case) {
     match kind {
         'r' => case.says(Ok(case.matrix().region().number())),
         'h' => {
-            let named = str::from_utf8(&case.given).expect("letters").parse::<Region>();
+            let named = str::from_utf8(&case.given)
+                .expect("letters")
+                .parse::<Region>();
             assert_eq!(named.map_or(NO_SUCH_ROW, Region::number), case.word);
         }
         'n' => {

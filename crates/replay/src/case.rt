@@ -5,6 +5,7 @@ use crate::floor_calls;
 use crate::matrix_calls;
 use crate::outline_calls;
 use crate::plan_calls;
+use crate::region_calls;
 use crate::shape_calls;
 ghost use mathlib.Core.Path.{_≡_};
 ghost use Prim.Native.Nat.{_+_, _≤_, _<_};
@@ -101,7 +102,7 @@ fn room(letter: u8, n: usize) -> usize
         b'A' | b'Y' => 25,
         b'J' => 536,
         b'U' => n,
-        b'E' | b'F' | b'C' => least(n, 100),
+        b'E' | b'F' | b'C' | b'n' => least(n, 100),
         _ => 9,
     }
 }
@@ -130,12 +131,15 @@ fn asked(letter: u8, h: Head, given: &[u8], due: &[u8]) -> bool {
         b'D' => plan_calls::read_report(h, given, due),
         b'I' => outline_calls::point_in_outline(h, given),
         b'J' => shape_calls::read_wkt(h, given, due),
+        b'r' => region_calls::region(h),
+        b'h' => region_calls::region_named(h, given),
+        b'g' => region_calls::region_of_boxes(h, given),
         _ => false,
     }
 }
 
 fn is_writing(letter: u8) -> bool {
-    (letter == b'E') | (letter == b'F') | (letter == b'C') | (letter == b'U')
+    (letter == b'E') | (letter == b'F') | (letter == b'C') | (letter == b'U') | (letter == b'n')
 }
 
 // Of the bytes given to C the first are the report, as many as the dimension says; of those given to U, the numbers, four bytes each.
@@ -146,7 +150,7 @@ fn read_first(letter: u8, dimension: u8) -> usize {
     dimension as usize
 }
 
-// Reports and texts are written into a copy of the case.
+// Reports, texts and names are written into a copy of the case.
 fn written(letter: u8, h: Head, n: usize, c: &[u8], copy: &mut [u8], due: &[u8]) -> bool
     requires { ⌜ (n ≤ 600) × (length (now c) ≡ 1280) × (length (now copy) ≡ 1280) ⌝ }
 {
@@ -156,6 +160,9 @@ fn written(letter: u8, h: Head, n: usize, c: &[u8], copy: &mut [u8], due: &[u8])
     }
     if letter == b'F' {
         return plan_calls::write_short_report(h, &mut copy[24..end], due);
+    }
+    if letter == b'n' {
+        return region_calls::region_name(h, &mut copy[24..end], due);
     }
     let count = least(least(read_first(letter, h.dimension), n), due.len());
     let from = 24 + count;
