@@ -61,8 +61,8 @@ impl Region {
     /// The region of two boxes, each by its min corner (x, y) and its max corner (u, v). Never [`Region::NoneOfThese`]
     /// (`never-none`, crates/regions/proofs/LawsBoxes.antt).
     ///
-    /// Refused: 13 for the first box and then for the second, if a coordinate isn't finite or a box is without min < max
-    /// on both axes. Promised: `boxesRegion`, crates/regions/specs/Boxes.antt.
+    /// Refused: 13 for the first box and then for the second, if a coordinate isn't finite or a box is without
+    /// min < max on both axes. Promised: `boxesRegion`, crates/regions/specs/Boxes.antt.
     ///
     /// ```
     /// use misonkandi::{Refusal, Region};
@@ -80,8 +80,8 @@ impl Region {
 
     /// Writes the library's own bytes of the name into a buffer from an offset on, and answers how many they are.
     ///
-    /// Refused: 12 if they don't fit; then no byte differs. Promised: `nameOf`, crates/regions/specs/Names.antt, put where
-    /// `writtenOf`, crates/frame/specs/Lent.antt, says.
+    /// Refused: 12 if they don't fit; then no byte differs. Promised: `nameOf`, crates/regions/specs/Names.antt, put
+    /// where `writtenOf`, crates/frame/specs/Lent.antt, says.
     pub fn write_name(self, buffer: &mut [u8], offset: usize) -> Result<usize, Refusal> {
         answered(c::region_name(self.number(), buffer, offset)).map(|count| count as usize)
     }
