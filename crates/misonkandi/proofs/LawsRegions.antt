@@ -1,4 +1,5 @@
--- Words of regions: nothing is cut, two answers with one word are one, and two boxes never have the word of "none of these". Assumes nothing.
+-- Words of regions: nothing is cut, two answers with one word are one, and two boxes never have the word of "none of these". Assumes
+-- nothing.
 use Prim.Native.Nat.{ℕ, _≤_, _<_}
 use mathlib.Core.Path.{_≡_, refl, sym, ap}
 use mathlib.Core.Bool.{Bool, true, false, cond}

@@ -1,5 +1,5 @@
--- The region of two boxes of f64 coordinates: exactly one name for each accepted pair, the other way round with the boxes exchanged, refused
--- exactly as number 13 says, and which predicates the name implies. Assumes nothing.
+-- The region of two boxes of f64 coordinates: exactly one name for each accepted pair, the other way round with the boxes exchanged,
+-- refused exactly as number 13 says, and which predicates the name implies. Assumes nothing.
 use mathlib.Core.Path.{_≡_, refl, sym, ap, subst, _∙_}
 use mathlib.Core.Bool.{true, false, cond}
 use Rattle.de9im.specs.declared.refusal.Refusal.the-variants.{NotAPlace}

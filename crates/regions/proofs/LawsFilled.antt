@@ -8,7 +8,6 @@ use native.Mathlib.Omega.{arith}
 use borrow.Author.Tests.{eq-eqb, ne-eqb, eqb-true, eqb-false}
 use lib.Dec.{eqb}
 use lib.ListN.{length}
-use Rattle.de9im.specs.Bytes.{bytes}
 use Rattle.de9im.specs.Cells.{cellsOf}
 use Rattle.de9im.specs.Letters.{letterOf, agreeLetter}
 use Rattle.de9im.specs.Matrix.{Matrix}
@@ -17,8 +16,8 @@ use Rattle.de9im.proofs.LawsBool.{told, clash}
 use Rattle.regions.specs.declared.region.Region.{Region}
 use Rattle.regions.specs.declared.region.Region.the-variants as R
 use Rattle.regions.specs.Search.{firstThat}
-use Rattle.regions.specs.Regions.{patternOf, isOf, isOneOfThese, regionOf}
-use Rattle.regions.specs.Inner.Filled.{filled, digit, worth, digitsOf, filledOf, isT, lettersT, patternDigits, regionBy}
+use Rattle.regions.specs.Regions.{isOf, isOneOfThese, regionOf}
+use Rattle.regions.specs.Inner.Filled.{filled, digit, worth, digitsOf, filledOf, lettersT, patternDigits, regionBy}
 
 -- so many digits stay below what the next one is worth
 below : (bs : List Bool) → digitsOf bs < worth bs

@@ -1,5 +1,5 @@
--- The region of a matrix: no matrix has two names, a name is answered exactly where its pattern fits, and transposing exchanges the names in
--- pairs. Assumes nothing.
+-- The region of a matrix: no matrix has two names, a name is answered exactly where its pattern fits, and transposing exchanges the names
+-- in pairs. Assumes nothing.
 use Prim.Native.Nat.{ℕ, _+_, _*_, _/_, _%_, _<_}
 use mathlib.Core.Path.{_≡_, refl, sym, ap, subst, _∙_}
 use mathlib.Core.Bool.{Bool, true, false, cond}
@@ -10,10 +10,8 @@ use borrow.Author.Tests.{eqb-true}
 use lib.ListN.{length, getD}
 use Rattle.de9im.specs.Bytes.{bytes}
 use Rattle.de9im.specs.Cells.{cellsOf}
-use Rattle.de9im.specs.Letters.{letterOf, agreeLetter}
 use Rattle.de9im.specs.Matrix.{Matrix, transposedOf}
 use Rattle.de9im.specs.Patterns.{agreeAll}
-use Rattle.de9im.proofs.LawsApart.{impossible}
 use Rattle.de9im.proofs.LawsBool.{told, clash}
 use Rattle.de9im.proofs.LawsForms.{nine-cases}
 use Rattle.de9im.proofs.LawsMatches.{agree-each, agree-all}

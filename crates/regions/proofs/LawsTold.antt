@@ -49,7 +49,9 @@ module _ {A : Type 0} (o : Comparing A) (d : Dense o) (s t : Span A) where
 abbrev matrixBy : Bool → Bool → Bool → Bool → Bool → Matrix
 matrixBy met ab ba off side =
     (cond met TwoDimensional Empty ∷ cond (met && not ab) OneDimensional Empty ∷ cond ab Empty TwoDimensional ∷ [])
-    ∷ (cond (met && not ba) OneDimensional Empty ∷ cond off Empty (cond side OneDimensional ZeroDimensional) ∷ cond ab Empty OneDimensional ∷ [])
+    ∷ (cond (met && not ba) OneDimensional Empty
+    ∷ cond off Empty (cond side OneDimensional ZeroDimensional)
+    ∷ cond ab Empty OneDimensional ∷ [])
     ∷ (cond ba Empty TwoDimensional ∷ cond ba Empty OneDimensional ∷ TwoDimensional ∷ [])
     ∷ []
 

@@ -1,6 +1,6 @@
 -- Beyond request R-13: which of the eleven predicates a region's name implies, for two boxes. That it is so, and that no other predicate
 -- holds, is proofs/LawsBoxes.antt.
-use mathlib.Core.Bool.{Bool, cond}
+use mathlib.Core.Bool.{cond}
 use mathlib.Core.List.{List, [], _∷_}
 use Rattle.de9im.specs.Matrix.{Matrix}
 use Rattle.predicates.specs.declared.predicate.Predicate.{Predicate}

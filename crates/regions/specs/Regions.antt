@@ -1,6 +1,6 @@
--- Request R-13: "answer one of disjoint, meet, overlap, equal, inside, coveredBy, contains, covers, from the 9-intersection: in cell order,
--- T for not F, these are FFTFFTTTT, FFTFTTTTT, TTTTTTTTT, TFFFTFFFT, TFFTFFTTT, TFFTTFTTT, TTTFFTFFT, TTTFTTFFT", and "For any other matrix
--- the answer is 'none of these'." A letter and its cell agree as in any pattern (de9im, specs/Letters.antt).
+-- Request R-13: "answer one of disjoint, meet, overlap, equal, inside, coveredBy, contains, covers, from the 9-intersection: in cell
+-- order, T for not F, these are FFTFFTTTT, FFTFTTTTT, TTTTTTTTT, TFFFTFFFT, TFFTFFTTT, TFFTTFTTT, TTTFFTFFT, TTTFTTFFT", and "For any
+-- other matrix the answer is 'none of these'." A letter and its cell agree as in any pattern (de9im, specs/Letters.antt).
 use Prim.Native.String.{String}
 use mathlib.Core.Bool.{Bool, true, false}
 use mathlib.Core.List.{List, [], _∷_}
