@@ -21,6 +21,7 @@ bindings:
 	sh bindings/rust/test.sh
 	sh tools/readme.sh
 	python3 samples/outline.py --check
+	python3 samples/regions.py --check
 
 bench:
 	sh tools/library.sh

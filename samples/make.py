@@ -6,7 +6,7 @@
 A plan is described below once, as records and as a drawing. A is a reader's cover area or path, B is a room. From that
 come NAME.plan (the bytes), NAME.txt (what is printed), NAME.svg (picture.py) and README.md. The matrix of each stands
 here as it follows from the picture, not as the program says it; the answers are read off it by document 01's table.
-`sh samples/check.sh` compares. The page's last picture is outline.py's, which asks the library.
+`sh samples/check.sh` compares. The page's last two pictures are outline.py's and regions.py's, which ask the library.
 """
 import os
 import struct
@@ -14,6 +14,7 @@ import sys
 
 sys.dont_write_bytecode = True
 from outline import SECTION  # noqa: E402 (no folder of compiled files beside the samples)
+from regions import SECTION as REGIONS  # noqa: E402
 from picture import gallery, svg  # noqa: E402
 
 HERE = os.path.dirname(os.path.abspath(__file__))
@@ -223,7 +224,7 @@ def write(path, data):
 
 
 def main():
-    write(os.path.join(HERE, 'README.md'), gallery(PLANS) + '\n' + SECTION)
+    write(os.path.join(HERE, 'README.md'), gallery(PLANS) + '\n' + SECTION + '\n' + REGIONS)
     for plan in PLANS:
         at = os.path.join(HERE, plan['name'])
         write(at + '.plan', plan['bytes'])

@@ -94,7 +94,7 @@ HEAD_OF_PAGE = """# Sample plans
 
 A, blue, is a reader's area or path, or the reader itself. B, brown and dashed, is a room. Black dots are nodes of the
 plan, with the ends that their records have; the red dot is a node whose record is refused. The matrix beside each plan
-is coloured by dimension. `python3 samples/make.py` makes all of this but the last picture, which asks the library;
+is coloured by dimension. `python3 samples/make.py` makes all of this but the last two pictures, which ask the library;
 `sh samples/check.sh` runs it.
 """
 

@@ -90,6 +90,15 @@ static uint32_t masks_count(const lendings *l) {
 static uint32_t relate(const lendings *l) {
     return misonkandi_relate_places(MISONKANDI_BOX, 0, 0, 4, 4, MISONKANDI_BOX, 2, 2, 6, 6, l->cells);
 }
+static uint32_t region(const lendings *l) { return misonkandi_region(l->cells); }
+static uint32_t region_of_boxes(const lendings *l) {
+    (void)l;
+    return misonkandi_region_of_boxes(0, 0, 4, 4, 2, 2, 6, 6);
+}
+static uint32_t region_named(const lendings *l) { return misonkandi_region_named(l->bytes, l->count); }
+static uint32_t region_name(const lendings *l) {
+    return misonkandi_region_name(MISONKANDI_REGION_NONE_OF_THESE, l->buffer, l->count, 0);
+}
 static uint32_t point_in_outline(const lendings *l) { return misonkandi_point_in_outline(l->xy, l->count, 1, 0); }
 static uint32_t bundle(const lendings *l) { return misonkandi_bundle(l->bytes, l->count, l->text); }
 /* Room for the labels of all whole ends. */
@@ -128,11 +137,12 @@ static uint32_t write_wkt(const lendings *l) {
     return misonkandi_write_wkt(MISONKANDI_SHAPE_POLYGON, l->xy, l->count, l->buffer, l->room, 0);
 }
 
-/* The bytes that a call is given: a text, a predicate's name, ends, a record of a node in version 1 or 2 or of an edge, a
+/* The bytes that a call is given: a text, a predicate's or a region's name, ends, a record of a node in version 1 or 2 or of an edge, a
  * floor of both in version 1, one of the longest record of version 2, a shape's text, a report, long or short. Or the
  * numbers of an outline or of a shape. */
 enum { NO_ROW = 8388607 }; /* MISONKANDI_NO_SUCH_ROW, read as a refusal */
-enum given { TEXT, NAME, ENDS, MANY, NODE, TWO, EDGE, FLOOR, LONG_FLOOR, OUTLINE, SHAPE, WKT, REPORT, SHORT_REPORT };
+enum given { TEXT, NAME, REGION_NAME, ENDS, MANY, NODE, TWO, EDGE, FLOOR, LONG_FLOOR, OUTLINE, SHAPE, WKT, REPORT,
+             SHORT_REPORT };
 enum { MOST_ENDS = MISONKANDI_MOST_ENDS, MOST_GIVEN = MISONKANDI_MOST_RECORD_BYTES + 11 };
 
 static const struct {
@@ -164,6 +174,10 @@ static const struct {
     {"verdict_all", verdict_all, OUTLINE, 0, 0},
     {"masks_count", masks_count, OUTLINE, 0, 0},
     {"relate_places", relate, TEXT, 0, 1},
+    {"region", region, TEXT, 0, 0},
+    {"region_of_boxes", region_of_boxes, TEXT, 0, 0},
+    {"region_named", region_named, REGION_NAME, NO_ROW, 0},
+    {"region_name", region_name, REGION_NAME, 12, 0},
     {"point_in_outline", point_in_outline, OUTLINE, 16, 0},
     {"bundle", bundle, ENDS, 0, 0},
     {"bundle, 600", bundle, MANY, 0, 0},
@@ -240,6 +254,7 @@ static size_t write_given(enum given given, uint8_t to[MOST_GIVEN]) {
     switch (given) {
     case TEXT: memcpy(to, "210F21012", 9); return 9;
     case NAME: memcpy(to, "contains_properly", 17); return 17;
+    case REGION_NAME: memcpy(to, "none of these", 13); return 13;
     case ENDS: return write_ends(to, 32);
     case MANY: return write_ends(to, MOST_ENDS);
     case NODE: memcpy(to, node, 9); return 9 + write_ends(to + 9, 32);
@@ -596,6 +611,54 @@ static void conversions(void) {
     SAME(write_node(two, 2, 32), MISONKANDI_MOST_CONVERTED_BYTES);
     SAME(write_node(two, 2, 600), MISONKANDI_MOST_RECORD_BYTES);
     munmap(room[0].start - ROOM, 3 * ROOM), munmap(room[1].start - ROOM, 3 * ROOM);
+}
+
+/* ---- Regions ---- */
+
+static const char *const region_names[] = {
+    "disjoint", "meet", "overlap", "equal", "inside", "coveredBy", "contains", "covers", "none of these",
+};
+
+/* A name in a buffer of so many bytes from one offset, every other byte as it was; or 12 and no byte written. */
+static void one_name(uint32_t which, size_t room, size_t offset) {
+    uint8_t meant[32], written[32];
+    size_t count = strlen(region_names[which]);
+    uint32_t word = 0x80000000u + 256 * MISONKANDI_REFUSAL_NO_ROOM;
+    memset(meant, 7, 32), memset(written, 7, 32);
+    if (offset <= room && room - offset >= count) {
+        memcpy(meant + offset, region_names[which], count);
+        word = (uint32_t)count;
+    }
+    SAME(misonkandi_region_name(which, written, room, offset), word);
+    SAME(memcmp(written, meant, 32), 0);
+}
+
+/* Names and numbers, a number above 8 before any room, and boxes that are none: the first, the second, both. */
+static void regions(void) {
+    static const size_t large[] = {(size_t)-1, (size_t)-13, ((size_t)-1) / 2 + 1};
+    uint8_t bytes[9] = {255, 0, 0, 0, 4, 0, 0, 0, 3}, before[9];
+    size_t room, offset, k;
+    uint32_t which;
+    SAME(misonkandi_region(bytes), MISONKANDI_REGION_EQUAL); /* numbers above 3 are not F */
+    for (which = 0; which <= MISONKANDI_REGION_NONE_OF_THESE; which++) {
+        const char *name = region_names[which];
+        SAME(misonkandi_region_named(bytes_of(name), strlen(name)), which);
+        SAME(misonkandi_region_named(bytes_of(name), strlen(name) - 1), MISONKANDI_NO_SUCH_ROW);
+        SAME(strlen(name) <= MISONKANDI_MOST_REGION_NAME_BYTES, 1);
+        for (room = 0; room <= 18; room++) {
+            for (offset = 0; offset <= room + 1; offset++) one_name(which, room, offset);
+            for (k = 0; k < sizeof large / sizeof large[0]; k++) one_name(which, room, large[k]);
+        }
+    }
+    memcpy(before, bytes, 9);
+    SAME(misonkandi_region_name(9, bytes, 9, 0), MISONKANDI_NO_SUCH_ROW);
+    SAME(misonkandi_region_name(9, NULL, 0, 1), MISONKANDI_NO_SUCH_ROW);
+    SAME(misonkandi_region_name(0xFFFFFFFFu, bytes, 9, 0), MISONKANDI_NO_SUCH_ROW);
+    SAME(memcmp(bytes, before, 9), 0);
+    refused(misonkandi_region_of_boxes(0, 0, 0, 1, 0, 0, 1, 1), MISONKANDI_REFUSAL_NOT_A_PLACE, 0);
+    refused(misonkandi_region_of_boxes(0, 0, 1, 1, 0, 0, NAN, 1), MISONKANDI_REFUSAL_NOT_A_PLACE, 0);
+    refused(misonkandi_region_of_boxes(0, 1, 1, 0, 0, 0, 1, INFINITY), MISONKANDI_REFUSAL_NOT_A_PLACE, 0);
+    SAME(misonkandi_region_of_boxes(-0.0, 0, 4, 4, 0, -0.0, 4, 4), MISONKANDI_REGION_EQUAL);
 }
 
 /* ---- Floors ---- */
@@ -1056,6 +1119,7 @@ int main(void) {
     stars_and_versions();
     reports();
     conversions();
+    regions();
     floors();
     outlines();
     shapes();

@@ -1,6 +1,6 @@
 /* A plan record from bytes to nine letters, a predicate by its row and one by its name, a refused pattern, one pattern
- * asked of many rooms, a floor of records in one call and in pieces, points in an outline, and shapes read from text
- * and written back. */
+ * asked of many rooms, a floor of records in one call and in pieces, points in an outline, shapes read from text and
+ * written back, and region names. */
 #include "misonkandi.h"
 #include <stdio.h>
 #include <string.h>
@@ -124,6 +124,17 @@ static void tell_rooms(const char *pattern) {
     printf("%lu of 3 rooms match\n", (unsigned long)misonkandi_masks_count(masks, rooms, 3));
 }
 
+/* Egenhofer's name of a cover area, a box, beside a room's box. */
+static void tell_region(double x, double y, double u, double v) {
+    uint8_t name[MISONKANDI_MOST_REGION_NAME_BYTES];
+    uint32_t region = misonkandi_region_of_boxes(x, y, u, v, 0, 0, 6, 6);
+    uint32_t count = misonkandi_region_name(region, name, sizeof name, 0);
+    if (MISONKANDI_REFUSED(region))
+        printf("refused %u\n", (unsigned)MISONKANDI_NUMBER(region));
+    else
+        printf("region %u: %.*s\n", (unsigned)region, (int)count, (const char *)name);
+}
+
 int main(void) {
     uint8_t cells[MISONKANDI_CELLS] = MISONKANDI_START, text[MISONKANDI_CELLS];
     uint32_t used = misonkandi_record(cells, record, sizeof record);
@@ -148,5 +159,9 @@ int main(void) {
     tell_text("LINESTRING()");
     tell_text("LINESTRING(1 2)");
     tell_text("POLYGON((0 0,4 0,4 4,0 1))");
+    tell_region(2, 2, 4, 4);
+    tell_region(0, 2, 4, 4);
+    tell_region(6, 0, 8, 6);
+    tell_region(4, 4, 4, 6);
     return 0;
 }

@@ -1,7 +1,7 @@
 /* Misonkandi for C: DE-9IM matrices, their eleven predicates and patterns, one pattern asked of many matrices, and
  * what fills a matrix: plan records, the ends at a node, points and boxes, stored reports; whole floors of records, in
- * one call or in pieces; a point in an outline; and shapes as WKT text. `sh tools/library.sh` builds the library for
- * the processor at hand, target/native/libmisonkandi.a.
+ * one call or in pieces; a point in an outline; shapes as WKT text; and Egenhofer's region names. `sh
+ * tools/library.sh` builds the library for the processor at hand, target/native/libmisonkandi.a.
  *
  * Every function of the library is proved to answer what its contract says, for all bytes and numbers that it can be
  * given; this header says the same in words. Two duties are left to the caller:
@@ -61,7 +61,7 @@ extern "C" {
 #define MISONKANDI_NUMBER(word) (((word) >> 8) & 0x7FFFFF)
 #define MISONKANDI_PLACE(word) ((word) & 0xFF)
 
-/* The answer where there is no such predicate. It is no refusal: as one, its number would be 8,388,607. */
+/* The answer where there is no such predicate or region. It is no refusal: as one, its number would be 8,388,607. */
 #define MISONKANDI_NO_SUCH_ROW 0xFFFFFFFFu
 
 enum misonkandi_refusals {
@@ -254,6 +254,54 @@ enum misonkandi_place_kinds {
  * comparisons are made; -0 equals 0. A point has no boundary. 0 and the cells written, or refusal 13. */
 uint32_t misonkandi_relate_places(uint32_t kind_a, double ax, double ay, double bx, double by,
                                   uint32_t kind_b, double cx, double cy, double dx, double dy, uint8_t cells[9]);
+
+/* ---- Regions ----
+ *
+ * Egenhofer's eight names, by which cells of a matrix are F: in cell order, T for not F, a matrix has the name whose
+ * pattern stands beside it below. No matrix has two of them; any matrix with none is "none of these". Two boxes have
+ * exactly one of the eight, always. Exchanging the two boxes exchanges inside with contains and coveredBy with covers,
+ * and keeps the other four.
+ *
+ * Of two boxes the name tells which of the eleven predicates say yes, and no other one does:
+ *
+ *   disjoint           disjoint
+ *   meet               intersects, touches
+ *   overlap            intersects, overlaps
+ *   equal              intersects, within, contains, equal_topo, coveredby, covers
+ *   inside, coveredBy  intersects, within, coveredby
+ *   contains           intersects, contains, covers, contains_properly
+ *   covers             intersects, contains, covers
+ */
+enum misonkandi_regions {
+    MISONKANDI_REGION_DISJOINT,     /* FFTFFTTTT, "disjoint" */
+    MISONKANDI_REGION_MEET,         /* FFTFTTTTT, "meet" */
+    MISONKANDI_REGION_OVERLAP,      /* TTTTTTTTT, "overlap" */
+    MISONKANDI_REGION_EQUAL,        /* TFFFTFFFT, "equal" */
+    MISONKANDI_REGION_INSIDE,       /* TFFTFFTTT, "inside" */
+    MISONKANDI_REGION_COVERED_BY,   /* TFFTTFTTT, "coveredBy" */
+    MISONKANDI_REGION_CONTAINS,     /* TTTFFTFFT, "contains" */
+    MISONKANDI_REGION_COVERS,       /* TTTFTTFFT, "covers" */
+    MISONKANDI_REGION_NONE_OF_THESE /* any other matrix, "none of these" */
+};
+
+/* The most bytes of a region's name. */
+#define MISONKANDI_MOST_REGION_NAME_BYTES 13
+
+/* The region of a matrix, 0 to 8. */
+uint32_t misonkandi_region(const uint8_t cells[9]);
+
+/* The region of two boxes, 0 to 7: from (ax, ay) to (bx, by), and from (cx, cy) to (dx, dy). Or refusal 13, for the
+ * first box and then for the second. It is the region of what misonkandi_relate_places writes. */
+uint32_t misonkandi_region_of_boxes(double ax, double ay, double bx, double by, double cx, double cy, double dx,
+                                    double dy);
+
+/* Writes a region's name into a buffer of `room` bytes from `offset` on: the bytes written, every other byte as it was,
+ * and no zero byte after them. Or MISONKANDI_NO_SUCH_ROW for a number above 8, or else refusal 12 if the offset lies
+ * beyond the buffer or fewer bytes follow it than the name has; then no byte is written. */
+uint32_t misonkandi_region_name(uint32_t region, uint8_t *buffer, size_t room, size_t offset);
+
+/* The region of a name, letter for letter, or MISONKANDI_NO_SUCH_ROW. The count is strlen's. */
+uint32_t misonkandi_region_named(const uint8_t *name, size_t count);
 
 /* ---- Outlines ----
  *

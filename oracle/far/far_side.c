@@ -35,6 +35,8 @@ static uint32_t call(uint8_t operation, uint32_t a, uint32_t b, uint8_t dimensio
     case 9: return misonkandi_verdict(cells, a);
     case 10: return misonkandi_verdict_pattern(cells, text, count);
     case 11: return misonkandi_predicate_named(text, count);
+    case 40: return misonkandi_region(cells);
+    case 41: return misonkandi_region_named(text, count);
     }
     end(4);
     return 0;
@@ -87,6 +89,7 @@ static uint32_t plan_call(uint8_t operation, uint32_t a, uint32_t b, size_t offs
     case 11: return one_by_one_call(out, bytes, count);
     case 12: return pieces_call(out, out_count, bytes);
     case 13: return misonkandi_convert_record(bytes, count, out, out_count, offset);
+    case 40: return misonkandi_region_name(a, bytes, count, offset);
     }
     end(6);
     return 0;

@@ -1,12 +1,13 @@
-/* compare [--list] [PAIRS [SEED]]: GEOS, document 01's rules in plain C and the library, on the same pairs of places. Exit
- * status 0: all three say the same of every pair. --list also prints GEOS's answer for each pair. */
+/* compare [--list] [PAIRS [SEED]]: GEOS, document 01's rules in plain C and the library, on the same pairs of places, and
+ * the region of two boxes by request R-13's patterns on GEOS's letters. Exit status 0: all say the same of every pair.
+ * --list also prints GEOS's answer for each pair. */
 #include "places.h"
 #include <stdio.h>
 #include <stdlib.h>
 #include <string.h>
 
 static int list;
-static long asked, differ;
+static long asked, differ, regions[8];
 
 static void show(const place *p)
 {
@@ -30,6 +31,17 @@ static int said(const answer *ours, const char *letters)
     return ours->word == (letters ? 0u : NOT_A_PLACE) && !memcmp(due, ours->cells, 9);
 }
 
+/* Two boxes have one of the eight regions, asked by their corners and by the matrix; of other places the matrix alone. */
+static int region_said(const pair *p, const answer *ours, const char *letters)
+{
+    uint32_t due = region_of(letters);
+    if (!p->a.kind || !p->b.kind)
+        return ours->region == due;
+    if (due < 8)
+        regions[due]++;
+    return due < 8 && ours->boxes == due && ours->region == due;
+}
+
 static void compare_one(const pair *p, const answer *ours, uint64_t turn)
 {
     char theirs[10], rule[10];
@@ -40,17 +52,18 @@ static void compare_one(const pair *p, const answer *ours, uint64_t turn)
     GEOSGeom_destroy_r(geos(), b);
     if (list)
         show_pair("", p, theirs);
-    if (strcmp(theirs, rule) || !said(ours, rule)) {
+    if (strcmp(theirs, rule) || !said(ours, rule) || !region_said(p, ours, theirs)) {
         differ++;
         show_pair("DIFFERENT: GEOS, the rules, the library: ", p, theirs);
-        printf("  %s, word %u\n", rule, ours->word);
+        printf("  %s, word %u, regions %u and %u\n", rule, ours->word, ours->boxes, ours->region);
     }
 }
 
 /* GEOS isn't asked about what is no place: it has no number for it. */
 static void compare_refused(const pair *p, const answer *ours)
 {
-    if (!are_places(p) && said(ours, NULL))
+    int boxes = p->a.kind != 1 || p->b.kind != 1 || ours->boxes == NOT_A_PLACE;
+    if (!are_places(p) && said(ours, NULL) && boxes)
         return;
     differ++;
     show_pair("DIFFERENT: not refused: ", p, "");
@@ -85,6 +98,9 @@ int main(int argc, char **argv)
         compare_all("random", random_pairs(count, seed), count, 1);
     pairs = refused_pairs(&k);
     compare_all("no places, GEOS not asked", pairs, k, 0);
+    printf("two boxes:");
+    for (int i = 0; i < 8; i++)
+        printf(" %s %ld%s", region_name(i), regions[i], i < 7 ? "," : "\n");
     printf("%ld pairs, %ld differ. GEOS %s; the library: %s; seed %llu\n", asked, differ, GEOSversion(), OURS,
            (unsigned long long)seed);
     return differ != 0;

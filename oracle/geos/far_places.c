@@ -11,7 +11,7 @@ static uint8_t returned[BATCH * RETURNED];
 
 static void answer(uint8_t *to)
 {
-    uint32_t kinds[2], word;
+    uint32_t kinds[2], word, boxes, region;
     double a[4], b[4];
     memcpy(&kinds[0], sent, 4);
     memcpy(a, sent + 4, sizeof a);
@@ -20,6 +20,10 @@ static void answer(uint8_t *to)
     memset(to + 4, HELD, 9);
     word = misonkandi_relate_places(kinds[0], a[0], a[1], a[2], a[3], kinds[1], b[0], b[1], b[2], b[3], to + 4);
     memcpy(to, &word, 4);
+    boxes = misonkandi_region_of_boxes(a[0], a[1], a[2], a[3], b[0], b[1], b[2], b[3]);
+    memcpy(to + 13, &boxes, 4);
+    region = misonkandi_region(to + 4);
+    memcpy(to + 17, &region, 4);
 }
 
 static void serve(void)

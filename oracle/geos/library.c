@@ -1,5 +1,5 @@
-/* The library's side. Linked: `misonkandi_relate_places` is called here. With FAR: a program that has the archive in it
- * (far_places.c) is asked, as ../far/run_far.c does it. */
+/* The library's side. Linked: `misonkandi_relate_places`, `misonkandi_region_of_boxes` and `misonkandi_region` are called
+ * here. With FAR: a program that has the archive in it (far_places.c) is asked, as ../far/run_far.c does it. */
 #include "places.h"
 #include <string.h>
 
@@ -13,6 +13,8 @@ answer by_library(const pair *p)
     answer said;
     memset(said.cells, HELD, 9);
     said.word = misonkandi_relate_places(a->kind, a->x0, a->y0, a->x1, a->y1, b->kind, b->x0, b->y0, b->x1, b->y1, said.cells);
+    said.boxes = misonkandi_region_of_boxes(a->x0, a->y0, a->x1, a->y1, b->x0, b->y0, b->x1, b->y1);
+    said.region = misonkandi_region(said.cells);
     return said;
 }
 
@@ -47,6 +49,8 @@ void all_by_library(const pair *pairs, answer *answers, long count)
         need(fread(back, RETURNED, 1, out) == 1, "an answer is missing");
         memcpy(&answers[i].word, back, 4);
         memcpy(answers[i].cells, back + 4, 9);
+        memcpy(&answers[i].boxes, back + 13, 4);
+        memcpy(&answers[i].region, back + 17, 4);
     }
     fclose(in);
     fclose(out);

@@ -15,10 +15,12 @@ typedef struct {
     place a, b;
 } pair;
 
-/* The library's answer; what the nine bytes held before the call is HELD. */
+/* The library's answer; what the nine bytes held before the call is HELD. Of two boxes their region's word too, and the
+ * region of the nine bytes. */
 typedef struct {
     uint32_t word;
     uint8_t cells[9];
+    uint32_t boxes, region;
 } answer;
 
 enum { HELD = 9 };
@@ -29,6 +31,10 @@ enum { HELD = 9 };
 /* rules.c: document 01's rules, a second time. */
 void by_the_rules(const pair *p, char letters[10]);
 int are_places(const pair *p);
+
+/* regions.c: request R-13's number of nine letters, by its patterns. */
+uint32_t region_of(const char letters[10]);
+const char *region_name(int region);
 
 /* pairs.c: which pairs there are. Those that allocate end the program if there is no room. */
 pair *grid_pairs(int n, long *count);

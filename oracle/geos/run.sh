@@ -1,7 +1,7 @@
 #!/bin/sh
 # Points and boxes beside GEOS: builds the library and a program, and runs it. outlines.sh is for points in outlines.
 #
-#   run.sh [--list] [PAIRS [SEED]]   compares GEOS, document 01's rules in C and the library
+#   run.sh [--list] [PAIRS [SEED]]   compares GEOS, document 01's rules in C and the library; the regions of boxes too
 #   run.sh --bench                   times them and prints a Markdown table
 #   run.sh --sample                  prints GEOS's answers as lines for the program `replay`, those on outlines too;
 #                                    the library isn't asked
@@ -10,14 +10,15 @@ cd "$(dirname "$0")"
 . ./common.sh
 need_geos
 
-parts="context.c geos.c pairs.c rules.c ../outlines/draw.c"
+parts="context.c geos.c pairs.c regions.c rules.c ../outlines/draw.c"
 
 case ${1:-} in
 --sample)
     # shellcheck disable=SC2086 # several words
     compile sample sample.c $parts -lgeos_c
     "$out/sample"
-    sh outlines.sh --sample ;;
+    sh outlines.sh --sample
+    "$out/sample" --regions ;;
 --bench)
     timed
     # shellcheck disable=SC2086 # several words

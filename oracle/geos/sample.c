@@ -1,4 +1,5 @@
-/* Prints GEOS's answers on the grid 0 to 3 as lines for the program `replay`. Our library isn't asked. */
+/* Prints GEOS's answers on the grid 0 to 3 as lines for the program `replay`; with --regions, the regions of two boxes that
+ * they make. Our library isn't asked. */
 #include "places.h"
 #include <math.h>
 #include <stdio.h>
@@ -84,10 +85,63 @@ static void print_odd(void)
             print_pair(&(pair){all[i], all[j]});
 }
 
-int main(void)
+static const char *const region_head =
+    "# g misonkandi_region_of_boxes: given are x, y, u, v of the first box and of the second, their bytes as for G.\n"
+    "# g: request R-13's patterns on the matrices of GEOS %s, for all pairs of boxes with whole coordinates\n"
+    "# 0 to 3. Last, by document 01 alone: refusal 13.\n";
+
+static void print_region(const place *a, const place *b, unsigned word)
+{
+    const place *both[2] = {a, b};
+    printf("g%018x%08x%018x%04x", 0, word, 0, 8);
+    for (int i = 0; i < 2; i++)
+        printf("%02x%02x%02x%02x", byte_of(both[i]->x0), byte_of(both[i]->y0), byte_of(both[i]->x1), byte_of(both[i]->y1));
+    putchar('\n');
+}
+
+static void print_region_of(const pair *p)
+{
+    char letters[10];
+    GEOSGeometry *a = geometry(&p->a, 0), *b = geometry(&p->b, 0);
+    by_geos(a, b, letters);
+    GEOSGeom_destroy_r(geos(), a);
+    GEOSGeom_destroy_r(geos(), b);
+    print_region(&p->a, &p->b, region_of(letters));
+}
+
+/* Two good boxes of the grid; then each that is none, on either side. */
+static void print_regions(void)
+{
+    const place box = {1, 0, 0, 3, 3};
+    const double bad[3] = {NAN, INFINITY, -INFINITY};
+    long count;
+    pair *pairs = grid_pairs(3, &count);
+    printf(region_head, GEOSversion());
+    for (long i = 0; i < count; i++)
+        if (pairs[i].a.kind && pairs[i].b.kind)
+            print_region_of(&pairs[i]);
+    for (int i = 0; i < 15; i++) {
+        place no = {1, 1, 1, 2, 2};
+        double *four[4] = {&no.x0, &no.y0, &no.x1, &no.y1};
+        if (i < 12)
+            *four[i / 3] = bad[i % 3];
+        else if (i < 14)
+            *four[i - 10] = 1;
+        else
+            no.x1 = no.y1 = 0;
+        print_region(&no, &box, NOT_A_PLACE);
+        print_region(&box, &no, NOT_A_PLACE);
+    }
+}
+
+int main(int argc, char **argv)
 {
     long count;
     start_geos();
+    if (argc > 1 && !strcmp(argv[1], "--regions")) {
+        print_regions();
+        return 0;
+    }
     printf(head, GEOSversion());
     pair *pairs = grid_pairs(3, &count);
     for (long i = 0; i < count; i++)

@@ -7,6 +7,7 @@ use crate::ours::{Call, Op};
 use crate::relate::geomgraph::intersection_matrix::IntersectionMatrix;
 use crate::relate::geomgraph::intersection_matrix::dimension_matcher::DimensionMatcher;
 use crate::rule;
+use crate::rule_region::PATTERNS;
 use std::cell::Cell;
 use std::panic::{AssertUnwindSafe, catch_unwind, set_hook, take_hook};
 use std::str::FromStr;
@@ -82,7 +83,8 @@ pub fn said(call: &Call) -> Option<Said> {
         Op::SetAtLeast => set_at_least(call),
         Op::Verdict => asked_verdict::predicate(call),
         Op::VerdictPattern => asked_verdict::pattern(call),
-        Op::Predicate | Op::Transpose | Op::PredicateNamed => None,
+        Op::Region => region(call),
+        Op::Predicate | Op::Transpose | Op::PredicateNamed | Op::RegionNamed => None,
     }
 }
 
@@ -110,6 +112,20 @@ fn matches(call: &Call) -> Option<Said> {
         Some(Ok(yes)) => Answer::Word(u32::from(yes)),
         Some(Err(_)) => Answer::Refused,
         None => Answer::Panicked,
+    };
+    let nine = Some(cells(&matrix));
+    Some(Said { answer, nine })
+}
+
+/// The crate has no regions; it is asked for each of request R-13's patterns, and must not say yes to two of them.
+fn region(call: &Call) -> Option<Said> {
+    let matrix = matrix(&call.cells);
+    let yes = |pattern| matches!(quietly(|| matrix.matches(pattern)), Some(Ok(true)));
+    let mut rows = (0..8).filter(|row| yes(PATTERNS[*row as usize]));
+    let answer = match (rows.next(), rows.next()) {
+        (None, _) => Answer::Word(8),
+        (Some(row), None) => Answer::Word(row),
+        (Some(_), Some(_)) => Answer::Panicked,
     };
     let nine = Some(cells(&matrix));
     Some(Said { answer, nine })

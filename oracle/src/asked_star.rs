@@ -74,7 +74,8 @@ pub fn said(call: &PlanCall) -> Option<PlanSaid> {
         | PlanOp::Floor
         | PlanOp::OneByOne
         | PlanOp::Pieces
-        | PlanOp::ConvertRecord => return None,
+        | PlanOp::ConvertRecord
+        | PlanOp::RegionName => return None,
     };
     Some(match answer {
         Some(Ok((word, out))) => PlanSaid::Gave { word, out },

@@ -68,25 +68,44 @@ struct Input {
     text: Rc<str>,
 }
 
-/// The best of the rounds so far, in nanoseconds for one call.
-pub(crate) struct Best(pub(crate) f64);
+/// The inputs are timed in so many parts: each has its best round, so that what else the machine does in a long round
+/// isn't counted.
+const PARTS: usize = 32;
+
+/// The best of the rounds so far, in nanoseconds: of each part of the inputs, for all of its calls.
+pub(crate) struct Best(Vec<f64>);
 
 impl Best {
     pub(crate) fn none() -> Self {
-        Best(f64::MAX)
+        Best(vec![f64::MAX; PARTS])
     }
 
     /// Not inlined: inlined into a line of ours and the crate's, it cost the crate's call some 2 ns.
     #[inline(never)]
     pub(crate) fn round<I, T>(&mut self, call: impl Fn(&I) -> T, inputs: &[I]) {
-        let start = Instant::now();
         for _ in 0..PASSES {
-            for input in inputs {
-                black_box(call(black_box(input)));
+            for (best, part) in self
+                .0
+                .iter_mut()
+                .zip(inputs.chunks(inputs.len().div_ceil(PARTS)))
+            {
+                let start = Instant::now();
+                for input in part {
+                    black_box(call(black_box(input)));
+                }
+                *best = best.min(start.elapsed().as_nanos() as f64);
             }
         }
-        let nanoseconds = start.elapsed().as_nanos() as f64;
-        self.0 = self.0.min(nanoseconds / (PASSES * inputs.len()) as f64);
+    }
+
+    /// A round that was timed elsewhere, as one part.
+    pub(crate) fn took(&mut self, nanoseconds: f64) {
+        self.0[0] = self.0[0].min(nanoseconds);
+    }
+
+    /// Of one call; there are so many in all parts.
+    pub(crate) fn each(&self, calls: usize) -> f64 {
+        self.0.iter().filter(|&&best| best < f64::MAX).sum::<f64>() / calls as f64
     }
 }
 
@@ -112,7 +131,7 @@ pub(crate) fn measure<I, T, U: PartialEq>(
             library.round(&ours, inputs);
         }
     }
-    let (crates, library) = (crates.0, library.0);
+    let (crates, library) = (crates.each(inputs.len()), library.each(inputs.len()));
     if THERE {
         let ratio = crates / library;
         println!("| {name} | {crates:.2} | {library:.2} | {ratio:.2} |");

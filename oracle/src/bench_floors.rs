@@ -84,7 +84,8 @@ fn measure(name: &str, size: usize, floors: &[Vec<u8>]) {
         ones.round(one_by_one, floors);
         whole.round(in_one_call, floors);
     }
-    let [crates, ones, whole] = [crates, ones, whole].map(|best| best.0 / size as f64);
+    let [crates, ones, whole] =
+        [crates, ones, whole].map(|best| best.each(floors.len()) / size as f64);
     println!(
         "| {name} | {crates:.1} | {ones:.1} | {whole:.1} | {:.2} | {:.2} |",
         ones / whole,

@@ -60,11 +60,11 @@ fn turn(best: &mut Best, call: impl Fn()) {
     let start = Instant::now();
     call();
     let nanoseconds = start.elapsed().as_nanos() as f64;
-    best.0 = best.0.min(nanoseconds / ROOMS as f64);
+    best.took(nanoseconds / ROOMS as f64);
 }
 
 fn line(name: &str, crates: &Best, ours: &Best) {
-    let (crates, ours) = (crates.0, ours.0);
+    let (crates, ours) = (crates.each(1), ours.each(1));
     println!(
         "| {name} | {crates:.2} | {ours:.3} | {:.1} |",
         crates / ours

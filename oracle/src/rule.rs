@@ -5,6 +5,7 @@
 //! to the crate's answers like ours, but for the differences of `listed.rs`.
 
 use crate::ours::{Call, Op};
+use crate::rule_region;
 use crate::rule_verdict;
 
 /// The C interface's words: below this a word is an answer. A refusal is this, plus 256 times its number, plus the place
@@ -87,6 +88,8 @@ pub fn outcome(call: &Call) -> Outcome {
         Op::Verdict => same(rule_verdict::predicate(&call.cells, call.a)),
         Op::VerdictPattern => same(rule_verdict::pattern(&call.cells, call.text())),
         Op::PredicateNamed => same(row(call.text())),
+        Op::Region => same(rule_region::region(&call.cells)),
+        Op::RegionNamed => same(rule_region::named(call.text())),
     }
 }
 

@@ -9,6 +9,7 @@ use crate::rule::{self, BAD_CODE, refusal};
 use crate::rule_convert;
 use crate::rule_floor;
 use crate::rule_outline;
+use crate::rule_region;
 use crate::rule_report;
 use crate::rule_star::{
     self, Collapsed, LABEL_BYTES, Label, Position, TOO_MANY_ENDS, WRONG_LENGTH, collapsed,
@@ -21,7 +22,7 @@ pub const BAD_VERSION: u32 = refusal(2);
 pub const BAD_KIND: u32 = refusal(3);
 
 /// The numbers that each function can give: a run that doesn't meet all of them has looked at too little.
-pub const REACHABLE: [(PlanOp, &[u32]); 13] = [
+pub const REACHABLE: [(PlanOp, &[u32]); 14] = [
     (PlanOp::Bundle, &[4, 5, 6, 7, 8]),
     (PlanOp::Star, &[4, 5, 6, 7, 8, 9, 12]),
     (PlanOp::Record, &[1, 2, 3, 4, 5, 6, 7, 8, 9]),
@@ -35,6 +36,7 @@ pub const REACHABLE: [(PlanOp, &[u32]); 13] = [
     (PlanOp::Floor, &[1, 2, 3, 4, 5, 6, 7, 8, 9]),
     (PlanOp::Pieces, &[1, 2, 3, 4, 5, 6, 7, 8, 9]),
     (PlanOp::ConvertRecord, &[1, 2, 3, 4, 5, 6, 7, 8, 9, 12]),
+    (PlanOp::RegionName, &[12]),
 ];
 
 /// What the two versions of a record differ in. "Plan record version 2 has a two-byte count, up to 600 ends, length 8 +
@@ -107,6 +109,10 @@ fn outcome_by(call: &PlanCall, collapsed: Collapsed) -> PlanOutcome {
         PlanOp::Floor | PlanOp::OneByOne => rule_floor::whole(call),
         PlanOp::Pieces => rule_floor::in_pieces(call),
         PlanOp::ConvertRecord => written(call, convert_record(call)),
+        PlanOp::RegionName => match rule_region::NAMES.get(call.a as usize) {
+            Some(name) => put(call, name.as_bytes()),
+            None => same(call, rule::NO_SUCH_ROW),
+        },
     }
 }
 

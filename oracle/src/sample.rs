@@ -18,6 +18,7 @@ use crate::sample_line::{self, Case};
 use crate::sample_masks;
 use crate::sample_outlines;
 use crate::sample_plans;
+use crate::sample_regions;
 use crate::sample_reports;
 use crate::sample_verdicts;
 use crate::sample_versions;
@@ -89,6 +90,14 @@ pub fn main() {
         lines.push_str(head);
         met.extend(sample_plans::write_lines(&mut lines, &calls));
     }
+    lines.push_str(sample_regions::HEAD);
+    for call in sample_regions::calls() {
+        write_line(&mut lines, &call);
+    }
+    met.extend(sample_plans::write_lines(
+        &mut lines,
+        &sample_regions::written(),
+    ));
     sample_plans::check_met(&met);
     lines.push_str(sample_masks::HEAD);
     sample_masks::write_lines(&mut lines);
@@ -402,6 +411,8 @@ fn letter(op: Op) -> (char, bool) {
         Op::Transpose => ('X', true),
         Op::Verdict => ('V', false),
         Op::VerdictPattern => ('W', false),
+        Op::Region => ('r', false),
+        Op::RegionNamed => ('h', false),
     }
 }
 

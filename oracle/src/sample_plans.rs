@@ -351,6 +351,7 @@ fn letter(op: PlanOp) -> char {
         PlanOp::Floor => 'A',
         PlanOp::Pieces => 'Y',
         PlanOp::ConvertRecord => 'Z',
+        PlanOp::RegionName => 'n',
         PlanOp::OneByOne => unreachable!("the lines of records have these"),
     }
 }
@@ -396,7 +397,9 @@ fn given_and_due(call: &PlanCall, due: &PlanOutcome) -> (Vec<u8>, Vec<u8>) {
             (given, due.out[..labels].to_vec())
         }
         PlanOp::Star => (given, due.out.clone()),
-        PlanOp::WriteReport | PlanOp::WriteShortReport => (given, due.bytes.clone()),
+        PlanOp::WriteReport | PlanOp::WriteShortReport | PlanOp::RegionName => {
+            (given, due.bytes.clone())
+        }
         PlanOp::ConvertReport => {
             let both = [given, call.out.clone()].concat();
             assert!(both.len() <= MOST_CONVERTED, "too long for replay");
@@ -441,6 +444,7 @@ fn write_line(lines: &mut String, call: &PlanCall, due: &PlanOutcome) {
             case.a = call.bytes.len() as u32;
         }
         PlanOp::ReadWkt => {}
+        PlanOp::RegionName => case.dimension = call.a as u8,
         PlanOp::WriteWkt => {
             case.cells[0] = u8::try_from(call.a).expect("a kind of one byte");
             case.dimension = call.numbers().len() as u8;

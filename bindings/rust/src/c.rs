@@ -5,7 +5,8 @@
 //! crosses as its pointer and its count; that of an empty one leads nowhere, and the library doesn't follow it.
 #![allow(dead_code, unused_imports)] // The oracle uses some of it, and so does a build without stars.
 
-/// What the three calls that take a predicate answer where there is no such one. No answer and no refusal equals it.
+/// What the calls that take a predicate's or a region's number or name answer where there is no such one. No answer and
+/// no refusal equals it.
 pub const NO_SUCH_ROW: u32 = 0xFFFF_FFFF;
 
 /// A refusal is this, plus 256 times its number, plus its place. A word below it is an answer.
@@ -59,6 +60,17 @@ mod declared {
             dy: f64,
             cells: &mut [u8; 9],
         ) -> u32;
+        pub safe fn misonkandi_region(cells: &[u8; 9]) -> u32;
+        pub safe fn misonkandi_region_of_boxes(
+            ax: f64,
+            ay: f64,
+            bx: f64,
+            by: f64,
+            cx: f64,
+            cy: f64,
+            dx: f64,
+            dy: f64,
+        ) -> u32;
 
         pub safe fn misonkandi_start(state: &mut Pieces, cells: &[u8; 9]);
         pub safe fn misonkandi_finish(
@@ -68,6 +80,13 @@ mod declared {
         ) -> u32;
 
         pub fn misonkandi_predicate_named(name: *const u8, count: usize) -> u32;
+        pub fn misonkandi_region_named(name: *const u8, count: usize) -> u32;
+        pub fn misonkandi_region_name(
+            region: u32,
+            buffer: *mut u8,
+            room: usize,
+            offset: usize,
+        ) -> u32;
         pub fn misonkandi_matches(cells: &[u8; 9], pattern: *const u8, count: usize) -> u32;
         pub fn misonkandi_verdict_pattern(cells: &[u8; 9], pattern: *const u8, count: usize)
         -> u32;
@@ -161,6 +180,7 @@ pub use declared::misonkandi_masks_verdict as masks_verdict;
 pub use declared::misonkandi_pack as pack;
 pub use declared::misonkandi_predicate as predicate;
 pub use declared::misonkandi_predicates as predicates;
+pub use declared::misonkandi_region as region;
 pub use declared::misonkandi_set as set;
 pub use declared::misonkandi_set_at_least as set_at_least;
 pub use declared::misonkandi_start as start;
@@ -175,6 +195,22 @@ pub fn relate_places(a: (u32, [f64; 4]), b: (u32, [f64; 4]), cells: &mut [u8; 9]
     let (kind_a, [ax, ay, bx, by]) = a;
     let (kind_b, [cx, cy, dx, dy]) = b;
     declared::misonkandi_relate_places(kind_a, ax, ay, bx, by, kind_b, cx, cy, dx, dy, cells)
+}
+
+/// A box is its min and its max corner.
+pub fn region_of_boxes([ax, ay, bx, by]: [f64; 4], [cx, cy, dx, dy]: [f64; 4]) -> u32 {
+    declared::misonkandi_region_of_boxes(ax, ay, bx, by, cx, cy, dx, dy)
+}
+
+pub fn region_named(name: &[u8]) -> u32 {
+    // SAFETY: pointer and count are those of one slice, lent to be read until the call ends.
+    unsafe { declared::misonkandi_region_named(name.as_ptr(), name.len()) }
+}
+
+pub fn region_name(region: u32, buffer: &mut [u8], offset: usize) -> u32 {
+    let (start, room) = (buffer.as_mut_ptr(), buffer.len());
+    // SAFETY: pointer and count are those of one slice, lent to nobody else until the call ends.
+    unsafe { declared::misonkandi_region_name(region, start, room, offset) }
 }
 
 pub fn predicate_named(name: &[u8]) -> u32 {

@@ -23,6 +23,7 @@
 //!
 //! [`Masks`] asks one pattern of many matrices. [`floor`] pours a whole floor of records in one call, and [`Pieces`] one that comes in pieces. [`Outline`] says where
 //! a point lies against a room's walls. [`Shape`] is a point, a line or a polygon, read from WKT text and written as such.
+//! [`Region`] is Egenhofer's name of a matrix or of two boxes.
 //!
 //! What differs from geo: a refusal is a number and a place, not a text; a bad letter of a pattern is refused on every
 //! matrix; raising from text is all or nothing; any line on a geometry's boundary collapses it at a node, not only the
@@ -51,6 +52,7 @@ mod positions;
 mod predicate;
 mod record;
 mod refusal;
+mod region;
 mod report;
 mod shape;
 mod star;
@@ -67,6 +69,7 @@ pub use positions::{CoordPos, Dimensions};
 pub use predicate::{NoSuchPredicate, Predicate};
 pub use record::{MOST_RECORD_BYTES, Record};
 pub use refusal::{InvalidInputError, Refusal};
+pub use region::{NoSuchRegion, Region};
 pub use report::{REPORT_BYTES, SHORT_REPORT_BYTES, convert_report};
 pub use shape::{MOST_WKT_BYTES, Shape, ShapeKind, read_wkt, write_wkt};
 pub use star::{

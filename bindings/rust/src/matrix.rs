@@ -8,6 +8,7 @@ use crate::floor::{Floor, floor};
 use crate::positions::{CoordPos, Dimensions};
 use crate::predicate::Predicate;
 use crate::refusal::{Refusal, answered};
+use crate::region::Region;
 
 /// A DE-9IM matrix: how interior, boundary and exterior of two geometries meet. It has geo's names and takes the place of
 /// geo's type of the same name; nine bytes, without a pointer.
@@ -187,6 +188,21 @@ impl IntersectionMatrix {
     #[must_use]
     pub fn ask(&self, predicate: Predicate) -> bool {
         c::predicate(&self.cells, predicate.number()) == 1
+    }
+
+    /// Egenhofer's name of the matrix, by which of its cells are F. Promised: `regionOf`,
+    /// crates/regions/specs/Regions.antt: request R-13's eight patterns, and none of these for any other matrix.
+    ///
+    /// ```
+    /// use misonkandi::{IntersectionMatrix, Region};
+    ///
+    /// let matrix: IntersectionMatrix = "212101212".parse().unwrap();
+    /// assert_eq!(matrix.region(), Region::Overlap);
+    /// assert_eq!(IntersectionMatrix::empty_disjoint().region(), Region::NoneOfThese);
+    /// ```
+    #[must_use]
+    pub fn region(&self) -> Region {
+        Region::of_cells(&self.cells)
     }
 
     /// All eleven answers in one call, in the order of [`Predicate::ALL`]. Promised: `answersOf`,

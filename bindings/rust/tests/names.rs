@@ -44,6 +44,19 @@ fn a_predicate_by_its_name_and_by_no_other() {
     assert_eq!(long.parse::<Predicate>(), Err(NoSuchPredicate));
 }
 
+/// The regions' names in the header, in their order.
+const REGIONS: [&str; 9] = [
+    "DISJOINT",
+    "MEET",
+    "OVERLAP",
+    "EQUAL",
+    "INSIDE",
+    "COVERED_BY",
+    "CONTAINS",
+    "COVERS",
+    "NONE_OF_THESE",
+];
+
 /// The functions that a text declares.
 fn declared(text: &str) -> BTreeSet<&str> {
     text.lines()
@@ -64,7 +77,7 @@ fn the_header_s_functions_are_the_crate_s() {
     let (header, crate_s) = (header(), read("src/c.rs"));
     let names = declared(&header);
     assert_eq!(names, declared(&crate_s));
-    assert_eq!(names.len(), 37);
+    assert_eq!(names.len(), 41);
 }
 
 /// The lines between the braces of a struct, without what is said of them.
@@ -137,6 +150,9 @@ fn the_header_s_numbers_are_the_crate_s() {
         assert_eq!(value(&name), u64::from(predicate.number()));
     }
     assert_eq!(value("ROWS"), Predicate::ALL.len() as u64);
+    for (number, name) in REGIONS.into_iter().enumerate() {
+        assert_eq!(value(&format!("REGION_{name}")), number as u64);
+    }
     let positions = [
         ("NONE", None),
         ("INSIDE", Some(CoordPos::Inside)),

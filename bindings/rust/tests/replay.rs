@@ -6,7 +6,8 @@ use std::fs;
 
 use misonkandi::{
     CoordPos, END_BYTES, EdgeEnd, IntersectionMatrix, LABEL_BYTES, Label, Masks, Outline, Pieces,
-    Place, Predicate, Refusal, Shape, ShapeKind, Verdict, bundle, bundle_of_bytes, convert_record,
+    Place, Predicate, Refusal, Region, Shape, ShapeKind, Verdict, bundle, bundle_of_bytes,
+    convert_record,
     convert_report, floor, point_in_outline, read_wkt, relate_coded, star, star_of_bytes,
     write_star, write_wkt,
 };
@@ -123,6 +124,34 @@ fn by_geos_names(matrix: &IntersectionMatrix) -> [bool; 11] {
         matrix.is_crosses(),
         matrix.is_overlaps(),
     ]
+}
+
+/// r, h, n, g: regions, of a matrix and by name, the name written, and of two boxes.
+fn region_case(kind: char, case: &Case) {
+    match kind {
+        'r' => case.says(Ok(case.matrix().region().number())),
+        'h' => {
+            let named = str::from_utf8(&case.given)
+                .expect("letters")
+                .parse::<Region>();
+            assert_eq!(named.map_or(NO_SUCH_ROW, Region::number), case.word);
+        }
+        'n' => {
+            let mut buffer = case.given.clone();
+            match Region::ALL.get(usize::from(case.dimension)) {
+                Some(region) => {
+                    let count = region.write_name(&mut buffer, case.offset());
+                    case.says(count.map(|count| count as u32));
+                }
+                None => assert_eq!(case.word, NO_SUCH_ROW),
+            }
+            case.holds(&buffer);
+        }
+        _ => {
+            let numbers = |from: usize| std::array::from_fn(|at| coordinate(case.given[from + at]));
+            case.says(Region::of_boxes(numbers(0), numbers(4)).map(Region::number));
+        }
+    }
 }
 
 /// P, Q, H, V: predicates, by all, by row and by name, and their verdicts.
@@ -478,6 +507,7 @@ fn every_stored_answer() {
             'I' => outline_case(&case),
             'J' => read_case(&case),
             'U' => write_case(&case),
+            'r' | 'h' | 'n' | 'g' => region_case(kind, &case),
             _ => panic!("no such kind of line: {line}"),
         }
         *seen.entry(kind).or_default() += 1;
@@ -487,7 +517,7 @@ fn every_stored_answer() {
     }
     assert_eq!(
         seen.len(),
-        29,
+        33,
         "a kind of line for each call of the library, one for the three of a floor in pieces and three for rooms"
     );
     // No line was passed over: the replay of the C interface has the same number.

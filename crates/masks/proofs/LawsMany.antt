@@ -52,8 +52,11 @@ module _ (f : ℕ → ℕ) where
     pub filling-all : (now : List ℕ) (i : ℕ) → length rooms ≤ length held → length rooms ≤ i → Filling f rooms held now i
         → Filled f rooms held now
     filling-all now i fits h k =
-        let e : i ≡ length rooms = omega (arith, k .far) in
-        (rw (le-ltb (length held) (length rooms) fits) refl, rw (le-ltb (length held) (length rooms) fits) (k .is ∙ rw (e, take-length) refl))
+        let e : i ≡ length rooms = omega (arith, k .far) in (
+          rw (le-ltb (length held) (length rooms) fits) refl,
+          rw (le-ltb (length held) (length rooms) fits) (k .is ∙ rw
+              (e, take-length) refl),
+        )
 
     pub too-few : length held < length rooms → (Refused NoRoom ≡ enoughFor rooms held) × (held ≡ answersAfter f rooms held)
     too-few h = rw (lt-ltb (length held) (length rooms) h) (refl, refl)

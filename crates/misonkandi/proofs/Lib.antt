@@ -6,3 +6,4 @@ pub mod LawsTold
 pub mod LawsStars
 pub mod LawsPlaces
 pub mod LawsVerdicts
+pub mod LawsRegions

@@ -7,3 +7,4 @@ pub mod Stars
 pub mod Verdicts
 pub mod Outlines
 pub mod Floors
+pub mod Regions

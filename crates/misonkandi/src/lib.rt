@@ -6,6 +6,7 @@ pub mod floors;
 pub mod outlines;
 pub mod places;
 pub mod records;
+pub mod region;
 pub mod reports;
 pub mod rooms;
 pub mod rows;

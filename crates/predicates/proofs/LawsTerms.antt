@@ -124,7 +124,8 @@ in-points n a b =
     (λ t. simp (t, and-false))
   where
     two : (x y : ℕ) → x ≡ 2 → eqb x y ≡ eqb y 2
-    two x y e = told (eqb y 2) (λ t. eq-eqb x y (e ∙ sym (eqb-true y 2 t)) ∙ sym t) (λ t. ne-eqb x y (λ h. eqb-false y 2 t (sym h ∙ e)) ∙ sym t)
+    two x y e = told (eqb y 2) (λ t. eq-eqb x y (e ∙ sym (eqb-true y 2 t)) ∙ sym t) (λ t. ne-eqb x y (λ h. eqb-false y 2 t
+        (sym h ∙ e)) ∙ sym t)
 
 crossing : (n a b : ℕ) (l g x y : Bool)
     → ((l && (not (eqb n 0) && x)) || (g && (not (eqb n 0) && y)) || (eqb a 2 && eqb b 2 && eqb n 1))
@@ -140,9 +141,11 @@ Alike x y n a =
 alike : (x y : Bool) (n a : ℕ) → n < 4 → a < 4 → n ≤ a → Alike x y n a
 alike x y n a h k =
     four-cases (λ b. n ≤ b → Alike x y n b)
-    (four-cases (λ m. m ≤ 0 → Alike x y m 0) (λ l. refl) (λ l. absurd (omega arith)) (λ l. absurd (omega arith)) (λ l. absurd (omega arith)) n h)
+    (four-cases (λ m. m ≤ 0 → Alike x y m 0) (λ l. refl) (λ l. absurd (omega arith)) (λ l. absurd (omega arith)) (λ l. absurd
+    (omega arith)) n h)
     (four-cases (λ m. m ≤ 1 → Alike x y m 1) (λ l. refl) (λ l. simp and-true) (λ l. absurd (omega arith)) (λ l. absurd (omega arith)) n h)
-    (four-cases (λ m. m ≤ 2 → Alike x y m 2) (λ l. refl) (λ l. simp and-false) (λ l. simp (and-true, or-false)) (λ l. absurd (omega arith)) n h)
+    (four-cases (λ m. m ≤ 2 → Alike x y m 2) (λ l. refl) (λ l. simp and-false) (λ l. simp (and-true, or-false)) (λ l. absurd
+    (omega arith)) n h)
     (four-cases (λ m. m ≤ 3 → Alike x y m 3) (λ l. refl) (λ l. simp and-true) (λ l. simp and-true) (λ l. simp and-true) n h)
     a k
 

@@ -5,6 +5,7 @@ use crate::floor_calls;
 use crate::matrix_calls;
 use crate::outline_calls;
 use crate::plan_calls;
+use crate::region_calls;
 use crate::room_calls;
 use crate::shape_calls;
 ghost use mathlib.Core.Path.{_≡_};
@@ -103,7 +104,7 @@ fn room(letter: u8, n: usize) -> usize
         b'J' => 536,
         b'v' => 11,
         b'U' | b'Z' => n,
-        b'E' | b'F' | b'C' => least(n, 100),
+        b'E' | b'F' | b'C' | b'n' => least(n, 100),
         _ => 9,
     }
 }
@@ -135,12 +136,20 @@ fn asked(letter: u8, h: Head, given: &[u8], due: &[u8]) -> bool {
         b'm' => room_calls::masks(h, given),
         b'p' => room_calls::packed(h, due),
         b'v' => room_calls::verdicts(h, due),
+        b'r' => region_calls::region(h),
+        b'h' => region_calls::region_named(h, given),
+        b'g' => region_calls::region_of_boxes(h, given),
         _ => false,
     }
 }
 
 fn is_writing(letter: u8) -> bool {
-    (letter == b'E') | (letter == b'F') | (letter == b'C') | (letter == b'U') | (letter == b'Z')
+    (letter == b'E')
+        | (letter == b'F')
+        | (letter == b'C')
+        | (letter == b'U')
+        | (letter == b'Z')
+        | (letter == b'n')
 }
 
 // Of the bytes given to C the first are the report, as many as the dimension says; of those given to U, the numbers, four bytes each; of
@@ -155,7 +164,7 @@ fn read_first(letter: u8, h: Head) -> usize {
     h.dimension as usize
 }
 
-// Reports, texts and records are written into a copy of the case.
+// Reports, texts, records and names are written into a copy of the case.
 fn written(letter: u8, h: Head, n: usize, c: &[u8], copy: &mut [u8], due: &[u8]) -> bool
     requires { ⌜ (n ≤ 600) × (length (now c) ≡ 1280) × (length (now copy) ≡ 1280) ⌝ }
 {
@@ -165,6 +174,9 @@ fn written(letter: u8, h: Head, n: usize, c: &[u8], copy: &mut [u8], due: &[u8])
     }
     if letter == b'F' {
         return plan_calls::write_short_report(h, &mut copy[24..end], due);
+    }
+    if letter == b'n' {
+        return region_calls::region_name(h, &mut copy[24..end], due);
     }
     let count = least(least(read_first(letter, h), n), due.len());
     let from = 24 + count;

@@ -6,6 +6,7 @@ mod floor_calls;
 mod matrix_calls;
 mod outline_calls;
 mod plan_calls;
+mod region_calls;
 mod room_calls;
 mod shape_calls;
 

@@ -33,7 +33,7 @@ fn infinite() -> f64 {
 }
 
 // A coordinate: a small whole number, or one of four that no byte is: -0, both infinities, no number.
-fn float(x: u8) -> f64 {
+pub(crate) fn float(x: u8) -> f64 {
     match x {
         252 => -0.0,
         253 => -infinite(),

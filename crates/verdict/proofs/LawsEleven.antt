@@ -19,7 +19,8 @@ tells-each (p ∷ ps) ns =
 
 -- an answer has one number
 pub one-number : (answer : List ℕ → Bool) (ns : List ℕ) (w v : ℕ) → Tells w answer ns → Tells v answer ns → w ≡ v
-one-number answer ns w v f g = f .word ∙ ap verdictNo (one-verdict answer ns (f .verdict) (g .verdict) (f .means) (g .means)) ∙ sym (g .word)
+one-number answer ns w v f g = f .word ∙ ap verdictNo (one-verdict answer ns (f .verdict) (g .verdict) (f .means) (g .means)) ∙ sym
+    (g .word)
 
 pub one-each : (ps : List Predicate) (ws vs ns : List ℕ) → TellsEach ps ws ns → TellsEach ps vs ns → ws ≡ vs
 one-each [] [] [] ns f g = refl

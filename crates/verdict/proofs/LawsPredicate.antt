@@ -152,7 +152,8 @@ module _ (ns : List ℕ) where
   disjoint-sound : Means (verdictOf Disjoint (termsOf m)) (answerOf Disjoint) ns
   unfolding holds
   disjoint-sound =
-      by-test (answerOf Disjoint) Open NoForGood (disjoint m) (termsOf m .apart) (row Disjoint m) (λ e. opens Disjoint none (only 0) (simp dim-back e) refl)
+      by-test (answerOf Disjoint) Open NoForGood (disjoint m) (termsOf m .apart) (row Disjoint m) (λ e. opens Disjoint none (only 0)
+      (simp dim-back e) refl)
       apart-closed
 
   -- intersects is its contrary: yes for good where disjoint is no

@@ -90,9 +90,9 @@ fn named_counts(run: &mut Run) {
             ask_all(run, all);
         }
     }
-    run.begin("star and record, 2 to 255 ends, each turn");
+    run.begin("star and record, 33 to 600 ends, each turn");
     for _ in 0..run.times(200) {
-        let count = 2 + run.random.below(31);
+        let count = 33 + run.random.below(568);
         let directions = run.random.pick(&ALL_DIRECTIONS);
         let all = ends_of(&mut run.random, count, directions, MOSTLY_GOOD);
         let areas = [area(run) as u8, area(run) as u8];

@@ -256,6 +256,7 @@ fn describe(call: &PlanCall) -> String {
             let counts = floor_room::counts(&call.out);
             format!(" on cells {}, pieces {counts:?}", hex(&cells))
         }
+        PlanOp::RegionName => format!(" of {} at {}", call.a, call.offset),
     };
     format!("{}{given}, bytes {}", call.op.name(), hex(&call.bytes))
 }

@@ -1,9 +1,9 @@
 //! Bundles and stars: labels joined, and labels completed.
 
 use super::Run;
-use crate::ours::plans::{PlanCall, PlanOp};
+use crate::ours::plans::{PlanCall, PlanOp, room_for};
 use crate::plan_pieces::{
-    ALL_DIRECTIONS, Labels, count, damage_ends, direction, end, ends, record, turned,
+    ALL_DIRECTIONS, Labels, Version, count, damage_ends, direction, end, ends, record_of, turned,
 };
 use crate::rule_star::END_BYTES;
 
@@ -52,14 +52,23 @@ pub fn compare_turned(run: &mut Run) {
     }
 }
 
-/// A star and its record on the start matrix, at each quarter turn.
+/// A star and its record on the start matrix, at each quarter turn. Above 32 ends the record is of version 2.
 pub(super) fn ask_turned(run: &mut Run, mut ends: Vec<u8>, areas: [u8; 2]) {
     let [a, b] = areas;
     let node = [0, 1].map(|_| 1 + run.random.below(3) as u8);
+    let count = ends.len() / END_BYTES;
+    let version = if count > 32 {
+        Version::Two
+    } else {
+        Version::One
+    };
+    let head = [node[0], node[1], a, b];
+    let both = (count as u16).to_be_bytes();
+    let head = [&head[..], &both[2 - version.form().count_bytes..]].concat();
     for _ in 0..4 {
-        let head = [node[0], node[1], a, b, (ends.len() / END_BYTES) as u8];
-        let bytes = record(1, &[&head[..], &ends].concat());
-        run.ask_plan(PlanCall::star(ends.clone(), a.into(), b.into()));
+        let bytes = record_of(version, 1, &[&head[..], &ends].concat());
+        let room = room_for(count.max(32));
+        run.ask_plan(PlanCall::star_in(room, ends.clone(), a.into(), b.into()));
         run.ask_plan(PlanCall::on_cells(PlanOp::Record, START, bytes));
         ends = turned(&ends);
     }

@@ -248,12 +248,14 @@ fn describe(call: &Call) -> String {
     let cells = letters(Some(call.cells));
     let text = || format!("\"{}\"", call.text().escape_ascii());
     match call.op {
-        Op::Predicates | Op::ToText | Op::Transpose => format!("{:?} of {cells}", call.op),
+        Op::Predicates | Op::ToText | Op::Transpose | Op::Region => {
+            format!("{:?} of {cells}", call.op)
+        }
         Op::Predicate | Op::Verdict => format!("{:?} {} of {cells}", call.op, call.a),
         Op::Matches | Op::FromText | Op::Raise | Op::VerdictPattern => {
             format!("{:?} {} on {cells}", call.op, text())
         }
-        Op::PredicateNamed => format!("{:?} {}", call.op, text()),
+        Op::PredicateNamed | Op::RegionNamed => format!("{:?} {}", call.op, text()),
         Op::Set | Op::SetAtLeast => format!(
             "{:?} ({}, {}) to {} on {cells}",
             call.op, call.a, call.b, call.dimension

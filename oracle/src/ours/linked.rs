@@ -33,6 +33,8 @@ pub(super) fn answer(call: &Call) -> Raw {
         Op::Verdict => verdict(cells, call.a),
         Op::VerdictPattern => verdict_pattern(cells, &text[..call.count]),
         Op::PredicateNamed => predicate_named(&text[..call.count]),
+        Op::Region => region(cells),
+        Op::RegionNamed => region_named(&text[..call.count]),
     };
     Raw { word, lent, text }
 }

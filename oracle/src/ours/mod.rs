@@ -40,6 +40,8 @@ pub enum Op {
     Verdict = 9,
     VerdictPattern = 10,
     PredicateNamed = 11,
+    Region = 40,
+    RegionNamed = 41,
 }
 
 /// One call. What an operation doesn't take is 0.

@@ -1,5 +1,5 @@
-//! Calls on ends, plan records, stored reports, outlines, shapes' texts and floors: their bytes are of any count, so
-//! they are written down apart.
+//! Calls on ends, plan records, stored reports, outlines, shapes' texts, floors and regions' names: their bytes are of
+//! any count, so they are written down apart.
 //!
 //! What a call is lent stands in one stretch, with guards before, between and after: the bytes that it may write an
 //! answer into (`out`), then the ends, the record, the report, the buffer, the outline's numbers, the text or the floor
@@ -44,6 +44,7 @@ pub enum PlanOp {
     /// All calls on a floor that comes in pieces.
     Pieces = 12,
     ConvertRecord = 13,
+    RegionName = 40,
 }
 
 impl PlanOp {
@@ -64,6 +65,7 @@ impl PlanOp {
             PlanOp::OneByOne => "misonkandi_record, one by one",
             PlanOp::Pieces => "misonkandi_finish",
             PlanOp::ConvertRecord => "misonkandi_convert_record",
+            PlanOp::RegionName => "misonkandi_region_name",
         }
     }
 }
@@ -77,7 +79,7 @@ pub struct PlanCall {
     /// call.
     pub out: Vec<u8>,
     pub bytes: Vec<u8>,
-    /// The area codes, the bits of the point's x and y, or a shape's kind.
+    /// The area codes, the bits of the point's x and y, a shape's kind, or a region.
     pub a: u32,
     pub b: u32,
     pub offset: u64,
@@ -198,6 +200,16 @@ impl PlanCall {
         }
     }
 
+    pub fn region_name(region: u32, buffer: Vec<u8>, offset: u64) -> Self {
+        PlanCall {
+            op: PlanOp::RegionName,
+            out: Vec::new(),
+            a: region,
+            offset,
+            ..PlanCall::bundle(buffer)
+        }
+    }
+
     /// The numbers of an outline, or of a shape that is written.
     pub fn numbers(&self) -> Vec<i32> {
         match self.op {
@@ -302,6 +314,7 @@ pub(super) fn answer(call: &PlanCall) -> PlanReply {
         PlanOp::ConvertReport => linked::convert_report(bytes, out, offset),
         PlanOp::ConvertRecord => linked::convert_record(bytes, out, offset),
         PlanOp::WriteWkt => linked::write_wkt(call.a, &numbers(out), bytes, offset),
+        PlanOp::RegionName => linked::region_name(call.a, bytes, offset),
         PlanOp::PointInOutline
         | PlanOp::ReadWkt
         | PlanOp::Floor
