@@ -67,7 +67,6 @@ impl IntersectionMatrix {
 
     /// The verdicts of all eleven predicates in one call, in the order of [`Predicate::ALL`]. Promised: `TellsEach`,
     /// crates/verdict/specs/Eleven.antt.
-    #[must_use]
     pub fn verdicts(&self) -> [Verdict; 11] {
         let mut numbers = [0; 11];
         c::verdicts(&self.cells(), &mut numbers);
