@@ -8,6 +8,7 @@ use crate::ours::traced_room::TracedRoom;
 use crate::plan_pieces::Directions;
 use crate::random::Random;
 use crate::rule_traced;
+use std::cell::RefCell;
 
 #[cfg(linked)]
 use crate::ours::linked;
@@ -40,25 +41,13 @@ const ROUNDS: usize = 600;
 
 type Answer = (u32, [u8; 9], [u32; 10]);
 
-fn plain_record(bytes: &Vec<u8>) -> (u32, [u8; 9]) {
-    let mut cells = START;
-    (linked::record(&mut cells, bytes), cells)
-}
-
-fn traced_record(bytes: &Vec<u8>) -> Answer {
-    let (mut cells, mut numbers) = (START, [0; 10]);
-    let word = linked::traced_record(&mut cells, &mut numbers, bytes);
-    (word, cells, numbers)
-}
-
-fn plain_floor(bytes: &Vec<u8>) -> (u32, [u8; 9]) {
-    let (mut cells, mut answer) = (START, [0; 2]);
-    (linked::floor(&mut cells, bytes, &mut answer), cells)
-}
-
-fn traced_floor(bytes: &Vec<u8>) -> Answer {
+/// A fresh matrix, so that the answers can be held to the rule.
+fn traced(op: PlanOp, bytes: &[u8]) -> Answer {
     let (mut cells, mut numbers, mut answer) = (START, [0; 10], [0; 2]);
-    let word = linked::traced_floor(&mut cells, &mut numbers, bytes, &mut answer);
+    let word = match op {
+        PlanOp::TracedRecord => linked::traced_record(&mut cells, &mut numbers, bytes),
+        _ => linked::traced_floor(&mut cells, &mut numbers, bytes, &mut answer),
+    };
     (word, cells, numbers)
 }
 
@@ -68,21 +57,54 @@ fn right(op: PlanOp, bytes: &[u8]) -> Answer {
     (due.word, room.cells, room.numbers)
 }
 
-type Plain = fn(&Vec<u8>) -> (u32, [u8; 9]);
-type Traced = fn(&Vec<u8>) -> Answer;
+/// A matrix that is kept and lent again and again, as a gateway does; a traced one has its numbers beside it.
+struct Kept {
+    cells: RefCell<[u8; 9]>,
+    numbers: RefCell<[u32; 10]>,
+}
+
+impl Kept {
+    fn start() -> Self {
+        Kept {
+            cells: RefCell::new(START),
+            numbers: RefCell::new([0; 10]),
+        }
+    }
+
+    fn plain(&self, op: PlanOp, bytes: &[u8]) -> u32 {
+        let cells = &mut self.cells.borrow_mut();
+        match op {
+            PlanOp::TracedRecord => linked::record(cells, bytes),
+            _ => linked::floor(cells, bytes, &mut [0; 2]),
+        }
+    }
+
+    fn traced(&self, op: PlanOp, bytes: &[u8]) -> u32 {
+        let cells = &mut self.cells.borrow_mut();
+        let numbers = &mut self.numbers.borrow_mut();
+        match op {
+            PlanOp::TracedRecord => linked::traced_record(cells, numbers, bytes),
+            _ => linked::traced_floor(cells, numbers, bytes, &mut [0; 2]),
+        }
+    }
+}
 
 /// One line: nanoseconds a record. Both take turns, so that a busy machine slows both.
 fn measure(name: &str, size: usize, inputs: &[Vec<u8>]) {
-    let (op, plain, traced): (PlanOp, Plain, Traced) = match size {
-        1 => (PlanOp::TracedRecord, plain_record, traced_record),
-        _ => (PlanOp::TracedFloor, plain_floor, traced_floor),
+    let op = match size {
+        1 => PlanOp::TracedRecord,
+        _ => PlanOp::TracedFloor,
     };
-    let all = inputs.iter().all(|bytes| traced(bytes) == right(op, bytes));
+    let all = inputs
+        .iter()
+        .all(|bytes| traced(op, bytes) == right(op, bytes));
     assert!(all, "{name}: the library's answers aren't request R-7's");
     let [mut plains, mut traceds] = [(); 2].map(|()| Best::none());
     for _ in 0..ROUNDS {
-        plains.round(plain, inputs);
-        traceds.round(traced, inputs);
+        let kept = Kept::start();
+        plains.round(|bytes: &Vec<u8>| kept.plain(op, bytes), inputs);
+        let kept = Kept::start();
+        traceds.round(|bytes: &Vec<u8>| kept.traced(op, bytes), inputs);
     }
     let [plains, traceds] = [plains, traceds].map(|best| best.each(inputs.len()) / size as f64);
     println!(

@@ -13,7 +13,7 @@ use Rattle.plan.specs.Record.{recordOf}
 use Rattle.traced.specs.declared.kept.Traced.{Traced}
 use Rattle.traced.specs.declared.«record».TracedAnswer.{TracedAnswer}
 use Rattle.traced.specs.Lent.{tracedOf, tenOf, PouredInto}
-use Rattle.traced.specs.Record.{lastNumber, countedIn, refusedIn, answeredIn, recordIn}
+use Rattle.traced.specs.Record.{lastNumber, countedIn, refusedIn, spentAs, answeredIn, recordIn}
 use Rattle.traced.proofs.LawsTraced.{accepted-in, spent-in, refused-in, as-it-was, accepted-only}
 
 -- the three answers
@@ -21,9 +21,13 @@ pub into-refused : (ns ten s : List ℕ) (r : Refusal) → recordOf ns s .answer
     → PouredInto (recordIn (tracedOf ns ten) s) (Refused r) ns ten
 into-refused ns ten s r e = rw (refused-in (tracedOf ns ten) s r e) (record { told = refl; stands = refl })
 
-pub into-spent : (ns ten s : List ℕ) (u : ℕ) → recordOf ns s .answer ≡ Used u → getD ten 9 0 ≡ lastNumber
-    → PouredInto (recordIn (tracedOf ns ten) s) (Refused NoNumberLeft) ns ten
-into-spent ns ten s u e h = rw (spent-in (tracedOf ns ten) s u e h) (record { told = refl; stands = refl })
+pub into-spent : (ns ten s : List ℕ) → getD ten 9 0 ≡ lastNumber
+    → PouredInto (recordIn (tracedOf ns ten) s) (spentAs (recordOf ns s .answer)) ns ten
+into-spent ns ten s h = by (recordOf ns s .answer) refl
+  where
+    by : (x : Answer) → recordOf ns s .answer ≡ x → PouredInto (recordIn (tracedOf ns ten) s) (spentAs x) ns ten
+    by (Used u) e = rw (spent-in (tracedOf ns ten) s u e h) (record { told = refl; stands = refl })
+    by (Refused r) e = into-refused ns ten s r e
 
 pub into-counted : (ns ten s : List ℕ) (u : ℕ) → recordOf ns s .answer ≡ Used u → getD ten 9 0 < lastNumber
     → PouredInto (recordIn (tracedOf ns ten) s) (Used u) (recordOf ns s .cells) (tenOf (countedIn (tracedOf ns ten) (recordOf ns s .cells)))

@@ -30,6 +30,11 @@ countedIn t ns = record { cells = ns; numbers = nine (numberIn t ns); count = t 
 abbrev pub refusedIn : Refusal → Traced → TracedAnswer
 refusedIn r t = record { answer = Refused r; kept = t }
 
+-- what is answered where no number is left: the record's own refusal first
+abbrev pub spentAs : Answer → Answer
+spentAs (Used u) = Refused NoNumberLeft
+spentAs (Refused r) = Refused r
+
 -- by the record's own answer; whether a number is left is asked last
 abbrev pub answeredIn : Answer → Traced → List ℕ → TracedAnswer
 answeredIn (Used u) t ns = cond (eqb (t .count) lastNumber) (refusedIn NoNumberLeft t) (record { answer = Used u; kept = countedIn t ns })

@@ -14,7 +14,7 @@ ghost use lib.Dec.{eqb};
 ghost use lib.ListN.{getD};
 ghost use Rattle.traced.specs.Lent.{tracedOf, tenOf, PouredInto};
 ghost use Rattle.traced.specs.Made.{alike};
-ghost use Rattle.traced.specs.Record.{lastNumber, countedIn, recordIn};
+ghost use Rattle.traced.specs.Record.{lastNumber, countedIn, spentAs, recordIn};
 
 // The bytes used, or why it is refused, and the matrix that is left.
 pub struct TracedAnswer {
@@ -69,7 +69,17 @@ fn none_left(count: u32) -> bool
     count == 4294967295
 }
 
-// Into cells and numbers that are lent: a refused record leaves both as they were. Whether a number is left is asked last.
+// What is answered where every number was given: the record's own refusal comes first.
+fn spent(answer: Answer) -> Answer
+    ensures { λ r. ⌜ r ≡ spentAs answer ⌝ }
+{
+    match answer {
+        Answer::Used(_n) => Answer::Refused(Refusal::NoNumberLeft),
+        Answer::Refused(r) => Answer::Refused(r),
+    }
+}
+
+// Into cells and numbers that are lent: a refused record leaves both as they were.
 pub fn pour_into(cells: &mut [u8; 9], ten: &mut [u32; 10], s: &[u8]) -> Answer
     ensures { λ r. ⌜ PouredInto (recordIn (tracedOf (now (cells .entry)) (now (ten .entry))) (now (s .entry)))
         r (now (cells .exit)) (now (ten .exit)) ⌝ }
@@ -77,17 +87,24 @@ pub fn pour_into(cells: &mut [u8; 9], ten: &mut [u32; 10], s: &[u8]) -> Answer
     let old = *cells;
     let done = record(old, s);
     let answer = done.answer;
+    let was = *ten;
+    if none_left(was[9]) {
+        return spent(answer);
+    }
     let Answer::Used(n) = answer else {
         return answer;
     };
-    let was = *ten;
-    if none_left(was[9]) {
-        return Answer::Refused(Refusal::NoNumberLeft);
-    }
     let after = done.cells;
     *ten = counted(old, after, was);
     *cells = after;
     Answer::Used(n)
+}
+
+// A refused record leaves cells, numbers and count as they were.
+fn left_as_it_was(answer: Answer, t: Traced) -> TracedAnswer
+    ensures { λ x. ⌜ x ≡ record { answer = answer; kept = t } ⌝ }
+{
+    TracedAnswer { answer, kept: t }
 }
 
 pub fn with_record(t: Traced, s: &[u8]) -> TracedAnswer
@@ -97,7 +114,7 @@ pub fn with_record(t: Traced, s: &[u8]) -> TracedAnswer
     let mut ten = ten_of(t);
     let answer = pour_into(&mut cells, &mut ten, s);
     let Answer::Used(n) = answer else {
-        return TracedAnswer { answer, kept: t };
+        return left_as_it_was(answer, t);
     };
     TracedAnswer {
         answer: Answer::Used(n),

@@ -10,34 +10,36 @@ use Rattle.traced.proofs.record.pour_into.Tie as tie
 
 returns : tie.Need-returns
 returns c =
-    let k = c .before .before in
+    let l = c .before .before in
+    let k = l .before .before in
+    let s = k .before .before .before in
+    rw (c .spent .ensures, k .«record» .ensures)
+    (into-spent (now (s .args .cells)) (now (s .args .ten)) (now (s .args .s))
+    (eqb-true _ _ (sym (l .none-left .ensures .0) ∙ c .before .if1 .taken)))
+
+returns-2 : tie.Need-returns-2
+returns-2 c =
+    let k = c .before .before .before .before .before in
     let s = k .before .before .before in
     let e = c .enum-told .given .1 in
     rw e (into-refused (now (s .args .cells)) (now (s .args .ten)) (now (s .args .s)) _
     (sym (ap (λ (x : BytesAnswer). x .answer) (k .«record» .ensures)) ∙ e))
 
-returns-2 : tie.Need-returns-2
-returns-2 c =
-    let k = c .before .before .before .before .before .before in
-    let s = k .before .before .before in
-    let e = c .before .before .before .before .answer .given .1 in
-    into-spent (now (s .args .cells)) (now (s .args .ten)) (now (s .args .s)) _
-    (sym (ap (λ (x : BytesAnswer). x .answer) (k .«record» .ensures)) ∙ e)
-    (eqb-true _ _ (sym (c .before .none-left .ensures .0) ∙ c .if1 .taken))
-
 counted-requires : tie.Need-counted-requires
-counted-requires c κs = c .before .before .none-left .ensures .1 (c .before .if1 .left)
+counted-requires c κs =
+    let l = c .before .before .before .before in
+    l .before .none-left .ensures .1 (l .if1 .left)
 
 returns-3 : tie.Need-returns-3
 returns-3 c =
-    let l = c .before .before .before in
-    let k = l .before .before .before .before .before in
+    let l = c .before .before .before .before .before in
+    let k = l .before .before .before in
     let s = k .before .before .before in
-    let e = l .before .before .before .answer .given .1 in
     let q = k .«record» .ensures in
     rw (c .counted .ensures, q)
     (into-counted (now (s .args .cells)) (now (s .args .ten)) (now (s .args .s)) _
-    (sym (ap (λ (x : BytesAnswer). x .answer) q) ∙ e) (l .none-left .ensures .1 (c .before .before .if1 .left)))
+    (sym (ap (λ (x : BytesAnswer). x .answer) q) ∙ c .before .before .before .answer .given .1)
+    (l .before .none-left .ensures .1 (l .if1 .left)))
 
 pub pour-into-spec : {M : Type 1} → statement M
 pour-into-spec =
@@ -45,10 +47,11 @@ pour-into-spec =
     (tie.spec
     (λ c κs. search needs)
     (λ c. search needs)
-    (λ c. search needs)
+    (λ c κs. search needs)
+    (λ c κs. search needs)
     returns
     (λ c. search needs)
-    (λ c κs. search needs)
+    (λ c. search needs)
     returns-2
     counted-requires
     returns-3)
