@@ -198,7 +198,7 @@ fn build_far_side(library: &Path) {
     let source = here.join("far/far_side.c");
     let header = here.join("../crates/misonkandi");
     println!("cargo:rerun-if-changed={}", source.display());
-    for name in ["bare.h", "laid.h", "floor_calls.h"] {
+    for name in ["bare.h", "laid.h", "floor_calls.h", "traced_calls.h"] {
         let included = here.join("far").join(name);
         println!("cargo:rerun-if-changed={}", included.display());
     }

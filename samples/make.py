@@ -120,6 +120,37 @@ def turned(ends):
     return [(-dy, dx, label) for dx, dy, label in ends]
 
 
+# Two squares, each corner and each crossing a record of its own, in the order in which they are numbered in the picture.
+# A ring runs against the clock, so its area lies to the left of the end that follows it.
+def corner(place, along, back):
+    """A corner of A or of B: the directions along the ring and back, and where it lies against the other one."""
+    of_a, other = place
+    follows, against = (B, I, E), (B, E, I)
+    if of_a:
+        ends = [end(*along, area(follows, NOT)), end(*back, area(against, NOT))]
+        return node(B, other, ends, areas=(B, other))
+    ends = [end(*along, area(NOT, follows)), end(*back, area(NOT, against))]
+    return node(other, B, ends, areas=(other, B))
+
+
+WALLS = [
+    ((0, 0), corner((True, E), (4, 0), (0, 4))),
+    ((4, 0), corner((True, E), (0, 2), (-4, 0))),
+    ((6, 2), corner((False, E), (0, 4), (-2, 0))),
+    ((6, 6), corner((False, E), (-4, 0), (0, -4))),
+    ((4, 2), P1),
+    ((4, 4), corner((True, I), (-2, 0), (0, -2))),
+    ((2, 2), corner((False, I), (2, 0), (0, 2))),
+    ((2, 4), node(B, B, [
+        end(2, 0, area((B, E, I), NOT)),
+        end(0, 2, area(NOT, (B, E, I))),
+        end(-2, 0, area((B, I, E), NOT)),
+        end(0, -2, area(NOT, (B, I, E))),
+    ], areas=(B, B))),
+    ((0, 4), corner((True, E), (0, -4), (2, 0))),
+    ((2, 6), corner((False, E), (0, -2), (4, 0))),
+]
+
 PLANS = [
     dict(name='overlap', title='P1: a reader\'s area overlaps a room', bytes=P1, prints=answers('212101212'),
          a=[[(0, 0), (4, 0), (4, 4), (0, 4)]], b=[[(2, 2), (6, 2), (6, 6), (2, 6)]],
@@ -189,6 +220,16 @@ PLANS = [
          nodes=[((4, 2), [(2, 0), (0, 2), (-2, 0), (0, -2)])], bad=[(2, 4)], named=dict(A=(1, 1), B=(5, 5)),
          alt='The squares of P1. A red dot marks the other place where their walls cross: its record is refused.',
          notes=['black: the first record, accepted', 'red: the record at byte 69; its end has direction 0,0']),
+    dict(name='which_wall', title='Which wall made this 2: P1\'s squares, each corner and each crossing a record',
+         bytes=b''.join(record for _, record in WALLS), prints=answers('212101212'),
+         a=[[(0, 0), (4, 0), (4, 4), (0, 4)]], b=[[(2, 2), (6, 2), (6, 6), (2, 6)]],
+         wall=[(6, 2), (2, 2)], numbered=[at for at, _ in WALLS], made=[5, 5, 1, 5, 5, 1, 3, 3, 0],
+         named=dict(A=(1, 1), B=(5, 5)),
+         alt='Two squares overlap. Corners and crossings are numbered 1 to 10. The room\'s lower wall is red.',
+         notes=['dots: the records, in order', 'small in a cell: the record that made it, 0 the start',
+                'red: the wall that made II a 2; record 5 is where it enters A'],
+         more='`Traced` in Rust and `misonkandi_traced_floor` in C say which record made each cell, as the small numbers in the\n'
+              'picture: of II, record 5. `cargo run --example which_wall` in `bindings/rust` reads this plan and says so.'),
 ]
 
 # --- the inputs that the gate runs: one for the program itself, the others for crates/relate_cases ---------------------------

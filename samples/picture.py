@@ -1,7 +1,8 @@
 """A sample's picture: the plan on the left, its matrix on the right, three by three, darker cells of higher dimension.
 
 A is blue. B is brown and dashed, so that A's outline shows where the two lie on each other. Black dots are nodes, with
-the ends that their records have; a red dot is a node whose record is refused.
+the ends that their records have; a red dot is a node whose record is refused. A numbered dot is a record, and a number in
+a cell is the record that made it.
 """
 from xml.sax.saxutils import escape
 
@@ -35,6 +36,12 @@ def drawn(plan, at):
             (x1, y1), (x2, y2) = at(x, y), at(x + 0.8 * dx / size, y + 0.8 * dy / size)
             out.append(f'<line x1="{x1:g}" y1="{y1:g}" x2="{x2:g}" y2="{y2:g}" stroke="black" stroke-width="3"/>')
         out.append('<circle cx="{:g}" cy="{:g}" r="5"/>'.format(*at(x, y)))
+    if 'wall' in plan:
+        out.append(f'<polyline points="{points(plan["wall"])}" fill="none" stroke="{RED}" stroke-width="4"/>')
+    for k, place in enumerate(plan.get('numbered', [])):
+        x, y = at(*place)
+        out.append(f'<circle cx="{x:g}" cy="{y:g}" r="8"/>')
+        out.append(text(x, y + 4, str(k + 1), 'white', 'middle', 10, 'bold'))
     for colour, dots in ((BLUE, plan.get('points', [])), (RED, plan.get('bad', []))):
         out += ['<circle cx="{:g}" cy="{:g}" r="5" fill="{}"/>'.format(*at(*p), colour) for p in dots]
     for name, colour in (('A', BLUE), ('B', BROWN)):
@@ -43,8 +50,8 @@ def drawn(plan, at):
     return out
 
 
-def matrix(letters, left, top):
-    """Three by three, with the names of the parts."""
+def matrix(letters, left, top, made=()):
+    """Three by three, with the names of the parts, and the numbers of the records that made the cells, if they are given."""
     x0, y0 = left + HEAD, top + 26
     out = [text(x0 + 1.5 * WIDE, top + 2, "B's", BROWN, 'middle', 12, 'bold'),
            text(x0 - 5, top + 18, "A's", BLUE, 'end', 12, 'bold')]
@@ -56,6 +63,8 @@ def matrix(letters, left, top):
         out.append(f'<rect x="{x:g}" y="{y:g}" width="{WIDE}" height="{HIGH}" fill="{SHADE[letter]}" '
                    f'stroke="{GREY}"/>')
         out.append(text(x + WIDE / 2, y + HIGH / 2 + 6, letter, GREY if letter == 'F' else 'black', 'middle', 16))
+    for k, number in enumerate(made):
+        out.append(text(x0 + (k % 3 + 1) * WIDE - 4, y0 + (k // 3 + 1) * HIGH - 4, str(number), 'black', 'end', 10))
     for k, (letter, words) in enumerate([('F', 'none'), ('0', 'points'), ('1', 'line'), ('2', 'area')]):
         x, y = x0 + k % 2 * 80, y0 + 3 * HIGH + 10 + k // 2 * 17
         out.append(f'<rect x="{x:g}" y="{y:g}" width="12" height="12" fill="{SHADE[letter]}" stroke="{GREY}"/>')
@@ -82,7 +91,7 @@ def svg(plan):
            '<rect width="100%" height="100%" fill="white"/>']
     out += drawn(plan, at)
     if len(first) == 9:
-        out += matrix(first, left, 16)
+        out += matrix(first, left, 16, plan.get('made', ()))
     else:
         out += [text(left, 60, first, RED, size=14, weight='bold'), text(left, 80, 'no matrix is printed')]
     for k, words in enumerate(notes):
@@ -108,4 +117,5 @@ def gallery(plans):
         out += [f'## {name}', '', f'{plan["title"]}.', '', f'![{plan["alt"]}]({name}.svg)', '',
                 f'`./relate samples/{name}.plan` prints [`{first}`]({name}.txt)' + (', and yes for' if yes else '.')]
         out += [f'{yes}.', ''] if yes else ['']
+        out += [plan['more'], ''] if 'more' in plan else []
     return '\n'.join(out)

@@ -52,6 +52,7 @@ typedef struct {
     int32_t *corners; /* read from a text */
     uint64_t *answer;
     misonkandi_pieces *state;
+    uint32_t *ten; /* a traced matrix's numbers */
     size_t count, room; /* of bytes, of the buffer's; of an outline or a shape, the count is of numbers */
 } lendings;
 
@@ -107,6 +108,13 @@ static uint32_t record(const lendings *l) { return misonkandi_record(l->cells, l
 static uint32_t whole_floor(const lendings *l) {
     return misonkandi_floor(l->cells, l->bytes, l->count, l->answer);
 }
+static uint32_t traced_record(const lendings *l) {
+    return misonkandi_traced_record(l->cells, l->ten, l->bytes, l->count);
+}
+static uint32_t traced_floor(const lendings *l) {
+    return misonkandi_traced_floor(l->cells, l->ten, l->bytes, l->count, l->answer);
+}
+static uint32_t traced_transpose(const lendings *l) { misonkandi_traced_transpose(l->cells, l->ten); return 0; }
 static uint32_t begin(const lendings *l) { misonkandi_start(l->state, l->cells); return 0; }
 /* In two pieces, the first of which ends within a record. */
 static uint32_t push(const lendings *l) {
@@ -188,6 +196,10 @@ static const struct {
     {"record, an edge", record, EDGE, 1, 1},
     {"floor", whole_floor, FLOOR, 0, 1},
     {"floor, 600", whole_floor, LONG_FLOOR, 0, 1},
+    {"traced_record, a node", traced_record, NODE, 1, 1},
+    {"traced_record, an edge", traced_record, EDGE, 1, 1},
+    {"traced_floor", traced_floor, FLOOR, 0, 1},
+    {"traced_transpose", traced_transpose, TEXT, 0, 1},
     {"start", begin, FLOOR, 0, 0},
     {"push", push, FLOOR, 0, 0},
     {"push, 600", push, LONG_FLOOR, 0, 0},
@@ -282,7 +294,7 @@ static size_t room_of(int k, size_t count) {
 }
 
 /* One call with its bytes cut to a count, all that it is lent at the end of a room or at its beginning. */
-enum { ROOMS = 8 };
+enum { ROOMS = 9 };
 static uint32_t guarded_call(int k, const uint8_t *bytes, size_t count, int at_end, const pages room[ROOMS]) {
     static const uint8_t nothing[MOST_GIVEN];
     enum given given = calls[k].given;
@@ -299,6 +311,7 @@ static uint32_t guarded_call(int k, const uint8_t *bytes, size_t count, int at_e
     l.answer = (uint64_t *)lent(room[6], nothing, (given == WKT ? 3 : 2) * sizeof *l.answer, at_end);
     l.state = (misonkandi_pieces *)(at_end ? room[7].start + ROOM - sizeof *l.state : room[7].start);
     misonkandi_start(l.state, start);
+    l.ten = (uint32_t *)lent(room[8], nothing, MISONKANDI_TRACED_NUMBERS * sizeof *l.ten, at_end);
     l.count = count;
     return calls[k].call(&l);
 }
@@ -327,13 +340,14 @@ static void nulls(void) {
         uint8_t cells[9] = {9, 8, 7, 6, 5, 4, 255, 0, 3}, before[9], text[9], labels[224];
         int32_t corners[MOST_NUMBERS];
         uint64_t answer[3];
+        uint32_t ten[MISONKANDI_TRACED_NUMBERS] = {0};
         misonkandi_pieces state;
         lendings l;
         uint32_t word;
         memcpy(before, cells, 9);
         misonkandi_start(&state, cells);
         l.cells = cells, l.text = text, l.labels = labels;
-        l.corners = corners, l.answer = answer, l.state = &state;
+        l.corners = corners, l.answer = answer, l.state = &state, l.ten = ten;
         l.bytes = NULL, l.xy = NULL, l.buffer = NULL, l.count = 0, l.room = 0;
         word = calls[k].call(&l);
         same(calls[k].name, MISONKANDI_REFUSED(word) ? MISONKANDI_NUMBER(word) : 0, calls[k].none);
@@ -722,6 +736,43 @@ static void in_two(misonkandi_pieces *state, pages room, const uint8_t *bytes, s
     pushed(state, room, bytes, cut, count);
 }
 
+/* A traced matrix: which record made a cell, the last number, and that a refused record leaves all as it was. */
+static void traced(void) {
+    static const uint8_t node[9] = {0, 7, 1, MISONKANDI_NODE, 1, 1, 0, 0, 0};
+    static const uint8_t edge[11] = {0, 9, 1, MISONKANDI_EDGE, MISONKANDI_AREA, 0, 1, 0, 0, 1, 0};
+    static const uint8_t kind[4] = {0, 2, 1, 3};
+    uint8_t cells[9] = MISONKANDI_START, before[9];
+    uint32_t ten[MISONKANDI_TRACED_NUMBERS] = {0}, held[MISONKANDI_TRACED_NUMBERS];
+    uint64_t answer[2] = {7, 7};
+    SAME(MISONKANDI_TRACED_EXACT(ten), 1);
+    SAME(misonkandi_traced_record(cells, ten, node, 9), 9);
+    SAME(misonkandi_traced_floor(cells, ten, edge, 11, answer), 0);
+    SAME(answer[0], 11);
+    SAME(answer[1], 1);
+    SAME(misonkandi_traced_record(cells, ten, node, 9), 9);
+    SAME(ten[MISONKANDI_II], 2);
+    SAME(ten[MISONKANDI_EE], 0);
+    SAME(ten[9], 3);
+    ten[MISONKANDI_IB] = 12, ten[MISONKANDI_BI] = 34;
+    misonkandi_traced_transpose(cells, ten);
+    SAME(ten[MISONKANDI_IB], 34);
+    SAME(ten[MISONKANDI_BI], 12);
+    SAME(ten[9], 3);
+    ten[9] = 4294967286u;
+    SAME(MISONKANDI_TRACED_EXACT(ten), 1);
+    ten[9] = 4294967287u;
+    SAME(MISONKANDI_TRACED_EXACT(ten), 0);
+    ten[9] = 4294967295u, cells[4] = 200;
+    memcpy(before, cells, 9);
+    memcpy(held, ten, sizeof ten);
+    refused(misonkandi_traced_record(cells, ten, node, 9), MISONKANDI_REFUSAL_NO_NUMBER_LEFT, 0);
+    refused(misonkandi_traced_record(cells, ten, kind, 4), MISONKANDI_REFUSAL_KIND, 0);
+    refused(misonkandi_traced_floor(cells, ten, node, 9, answer), MISONKANDI_REFUSAL_NO_NUMBER_LEFT, 0);
+    SAME(answer[0], 0);
+    SAME(memcmp(before, cells, 9), 0);
+    SAME(memcmp(held, ten, sizeof ten), 0);
+}
+
 /* A floor cut into two pieces at every place, and into single bytes. */
 static void every_cut(const uint8_t *bytes, size_t count, const pages room[2]) {
     misonkandi_pieces *state = (misonkandi_pieces *)lent(room[0], NULL, 0, 1) - 1;
@@ -1030,9 +1081,10 @@ static lendings all_lent(int k) {
     static int32_t corners[MOST_NUMBERS];
     static uint64_t answer[3];
     static misonkandi_pieces state;
+    static uint32_t ten[MISONKANDI_TRACED_NUMBERS];
     lendings l;
     memset(&state, 0, sizeof state);
-    l.state = &state;
+    l.state = &state, l.ten = ten;
     l.cells = cells, l.text = text, l.labels = labels, l.buffer = buffer, l.bytes = bytes;
     l.xy = numbers_of(calls[k].given), l.corners = corners, l.answer = answer;
     l.count = write_given(calls[k].given, bytes), l.room = sizeof buffer;
@@ -1121,6 +1173,7 @@ int main(void) {
     conversions();
     regions();
     floors();
+    traced();
     outlines();
     shapes();
     larger();

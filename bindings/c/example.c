@@ -1,6 +1,6 @@
 /* A plan record from bytes to nine letters, a predicate by its row and one by its name, a refused pattern, one pattern
- * asked of many rooms, a floor of records in one call and in pieces, points in an outline, shapes read from text and
- * written back, and region names. */
+ * asked of many rooms, a floor of records in one call and in pieces, which record made a cell, points in an outline,
+ * shapes read from text and written back, and region names. */
 #include "misonkandi.h"
 #include <stdio.h>
 #include <string.h>
@@ -55,6 +55,17 @@ static void tell_one_call(size_t count) {
     printf("floor of %lu bytes: ", (unsigned long)count);
     tell_floor(cells, answer);
     tell_refused(word, answer);
+}
+
+/* Which record made each cell of the same floor: the wall, record 2, made II a 2. */
+static void tell_made(void) {
+    uint8_t cells[MISONKANDI_CELLS] = MISONKANDI_START;
+    uint32_t numbers[MISONKANDI_TRACED_NUMBERS] = {0};
+    uint64_t answer[2];
+    misonkandi_traced_floor(cells, numbers, plan, 20, answer);
+    printf("of %lu records, II by %lu, BE by %lu, EE by %lu\n", (unsigned long)numbers[9],
+           (unsigned long)numbers[MISONKANDI_II], (unsigned long)numbers[MISONKANDI_BE],
+           (unsigned long)numbers[MISONKANDI_EE]);
 }
 
 /* A gateway that reads the same floor in pieces, and asks after each. Within a record misonkandi_finish says refusal 1;
@@ -150,6 +161,7 @@ int main(void) {
     tell_rooms("T*F**F***");
     tell_one_call(20);
     tell_one_call(19);
+    tell_made();
     tell_pieces(16);
     tell_point(2, 3); /* level with the notch's corner (5, 3) */
     tell_point(5, 5); /* in the notch */

@@ -29,3 +29,7 @@ trap 'rm -f "$new"' EXIT
 stored=examples/gateway_loop.stdout
 diff "$stored" "$new"
 echo "the example prints what $stored has"
+cargo run --quiet --example which_wall >"$new"
+stored=examples/which_wall.stdout
+diff "$stored" "$new"
+echo "the example prints what $stored has"

@@ -1,7 +1,7 @@
 /* Misonkandi for C: DE-9IM matrices, their eleven predicates and patterns, one pattern asked of many matrices, and
  * what fills a matrix: plan records, the ends at a node, points and boxes, stored reports; whole floors of records, in
- * one call or in pieces; a point in an outline; shapes as WKT text; and Egenhofer's region names. `sh
- * tools/library.sh` builds the library for the processor at hand, target/native/libmisonkandi.a.
+ * one call or in pieces; which record made a cell; a point in an outline; shapes as WKT text; and Egenhofer's region
+ * names. `sh tools/library.sh` builds the library for the processor at hand, target/native/libmisonkandi.a.
  *
  * Every function of the library is proved to answer what its contract says, for all bytes and numbers that it can be
  * given; this header says the same in words. Two duties are left to the caller:
@@ -18,9 +18,10 @@
  *
  * Stack: MISONKANDI_STACK_BYTES are enough for any call. Those that read a node take most, whatever it is, and with 600
  * ends misonkandi_push about 17,100 bytes, misonkandi_floor, misonkandi_record and misonkandi_convert_record 17,000,
- * misonkandi_star 16,800; misonkandi_write_wkt takes 1,900, misonkandi_read_wkt 1,700, each other less than 400: measured
- * on aarch64, on a painted stack (bindings/c/run.sh, which fails at more than MISONKANDI_STACK_BYTES). On x86-64 earlier
- * forms took up to half as much again. Only merging ends leads back to itself, at most ten deep.
+ * misonkandi_star 16,800; misonkandi_write_wkt takes 1,900, misonkandi_read_wkt 1,700, each other that reads no node less
+ * than 400: measured on aarch64, on a painted stack (bindings/c/run.sh, which fails at more than
+ * MISONKANDI_STACK_BYTES). On x86-64 earlier forms took up to half as much again. Only merging ends leads back to
+ * itself, at most ten deep.
  */
 #ifndef MISONKANDI_H
 #define MISONKANDI_H
@@ -80,6 +81,7 @@ enum misonkandi_refusals {
                                              * answers than rooms */
     MISONKANDI_REFUSAL_NOT_A_PLACE = 13,    /* coordinate not finite, box without min < max on an axis, kind above 1 */
     MISONKANDI_REFUSAL_TOP_BITS = 14,       /* one of the top six bits of a short report's cells set */
+    MISONKANDI_REFUSAL_NO_NUMBER_LEFT = 15, /* of a traced matrix: no record number left for a record without fault */
     MISONKANDI_REFUSAL_CORNER_COUNT = 16,   /* wrong count of corners, or half a corner left over; no such shape */
     MISONKANDI_REFUSAL_OUT_OF_RANGE = 17,   /* coordinate of a corner or of the point beyond 1,000,000,000 in size */
     MISONKANDI_REFUSAL_EQUAL_CORNERS = 18,  /* two equal neighbouring corners of an outline, last and first included */
@@ -516,6 +518,41 @@ uint32_t misonkandi_push(misonkandi_pieces *state, const uint8_t *bytes, size_t 
  * record at the end is refusal 1. All nine cells and both numbers are written; what they were doesn't matter. The state
  * stays as it is, so one may ask at any time and push on. Both numbers are counted modulo 2^64. */
 uint32_t misonkandi_finish(const misonkandi_pieces *state, uint8_t cells[9], uint64_t answer[2]);
+
+/* ---- Traced matrices: which record made this cell ----
+ *
+ * A traced matrix is nine cells and ten numbers of 32 bits. numbers[9] counts the accepted records. The others say of
+ * each cell, in the cells' order, which record made it: the least k such that after k records the cell had its present
+ * dimension, counting from 1, and 0 if the start had it. Since cells only rise, that is the last record that changed
+ * the cell. A number above 3 in a cell that becomes 3 is no change.
+ *
+ *   uint8_t cells[MISONKANDI_CELLS] = MISONKANDI_START;
+ *   uint32_t numbers[MISONKANDI_TRACED_NUMBERS] = {0};
+ *
+ * Ten zeros beside any nine cells are a start, so beside a matrix that was read back: reports don't keep the numbers.
+ * Any ten numbers are taken; they mean what is said here if they began as zeros and the calls below alone changed them
+ * and the cells.
+ *
+ * Each record is checked as misonkandi_record checks it, and last for 15: a record without fault, where numbers[9] is
+ * already 4,294,967,295. A refused record leaves cells and numbers as they were, and isn't counted.
+ *
+ * The verdict reads the nine cells only. MISONKANDI_TRACED_EXACT says whether at least nine record numbers are left:
+ * then it means, of records poured by these calls, all that is said of it. With fewer a verdict for good is still true,
+ * and MISONKANDI_OPEN promises nothing.
+ */
+#define MISONKANDI_TRACED_NUMBERS 10
+#define MISONKANDI_TRACED_EXACT(numbers) ((numbers)[9] <= 4294967286u)
+
+/* Pours one record: the bytes that it used, or refusal 1 to 9 or 15. */
+uint32_t misonkandi_traced_record(uint8_t cells[9], uint32_t numbers[10], const uint8_t *bytes, size_t count);
+
+/* Pours a floor of `count` bytes, the same as one by one up to the first refused record: the word, the cells and the
+ * answer as misonkandi_floor's, 15 included. answer[1] counts the records of this call. */
+uint32_t misonkandi_traced_floor(uint8_t cells[9], uint32_t numbers[10], const uint8_t *bytes, size_t count,
+                                 uint64_t answer[2]);
+
+/* Transposes the cells, and moves each number with its cell; the count stays. */
+void misonkandi_traced_transpose(uint8_t cells[9], uint32_t numbers[10]);
 
 /* ---- Stored reports ----
  *

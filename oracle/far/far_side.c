@@ -10,6 +10,7 @@
  * out and bytes with a guard of 16 before, between and after. The calls are made where these lie, but for numbers and
  * pieces, and all comes back with the word in the place of a. */
 #include "floor_calls.h"
+#include "traced_calls.h"
 
 enum { GUARD = 9, LENT = 27, LONGEST = 24, SENT = 11 + LENT + LONGEST, RETURNED = 4 + LENT + LONGEST, BATCH = 1024 };
 
@@ -90,6 +91,7 @@ static uint32_t plan_call(uint8_t operation, uint32_t a, uint32_t b, size_t offs
     case 12: return pieces_call(out, out_count, bytes);
     case 13: return misonkandi_convert_record(bytes, count, out, out_count, offset);
     case 40: return misonkandi_region_name(a, bytes, count, offset);
+    case 50: case 51: case 52: return traced_call(operation, out, bytes, count);
     }
     end(6);
     return 0;

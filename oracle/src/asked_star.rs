@@ -75,7 +75,10 @@ pub fn said(call: &PlanCall) -> Option<PlanSaid> {
         | PlanOp::OneByOne
         | PlanOp::Pieces
         | PlanOp::ConvertRecord
-        | PlanOp::RegionName => return None,
+        | PlanOp::RegionName
+        | PlanOp::TracedRecord
+        | PlanOp::TracedFloor
+        | PlanOp::TracedTranspose => return None,
     };
     Some(match answer {
         Some(Ok((word, out))) => PlanSaid::Gave { word, out },

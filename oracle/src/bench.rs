@@ -9,6 +9,7 @@ use crate::asked;
 use crate::bench_floors;
 use crate::bench_masks;
 use crate::bench_plans;
+use crate::bench_traced;
 use crate::ours::{Call, Op};
 use crate::pieces::{agreeing_pattern, disagreeing, good_pattern, good_text};
 use crate::random::Random;
@@ -329,6 +330,9 @@ pub fn main() {
     if std::env::args().nth(1).as_deref() == Some("masks") {
         return measure_asking_many(random);
     }
+    if THERE && std::env::args().nth(1).as_deref() == Some("traced") {
+        return bench_traced::measure_all(random);
+    }
     let first = inputs(random, |random, cells| disagreeing_at(random, cells, 0));
     measure_matches("`matches`, disagrees at the first cell", &first);
     let early = inputs(random, |random, cells| {
@@ -365,5 +369,6 @@ pub fn main() {
     if THERE {
         bench_plans::measure_reports(random);
         bench_floors::measure_all(random);
+        bench_traced::measure_all(random);
     }
 }

@@ -378,3 +378,22 @@ pub fn with_bytes_after(random: &mut Random, mut bytes: Vec<u8>) -> Vec<u8> {
     bytes.extend((0..count).map(|_| random.byte()));
     bytes
 }
+
+/// A record for each refusal of a record; the first is of this version.
+pub fn one_a_refusal(version: u8) -> [Vec<u8>; 9] {
+    let one_side = [
+        end((1, 0), &[1, 0, 1, 3, 0, 0, 0]),
+        end((0, 1), &[1, 0, 0, 1, 0, 0, 0]),
+    ];
+    [
+        vec![0, 2, version, 1],
+        vec![0, 2, 1, 3],
+        vec![0, 1, 1],
+        record(1, &[1, 1, 0, 0, 33]),
+        record(1, &[4, 1, 0, 0, 0]),
+        record(2, &[2, 1, 0, 0, 1, 0, 0]),
+        record(1, &[&[1, 1, 0, 0, 1][..], &[0; 15]].concat()),
+        record(1, &[&[1, 1, 0, 0, 2][..], one_side.as_flattened()].concat()),
+        vec![1, 0, 1],
+    ]
+}

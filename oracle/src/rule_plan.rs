@@ -15,6 +15,7 @@ use crate::rule_star::{
     self, Collapsed, LABEL_BYTES, Label, Position, TOO_MANY_ENDS, WRONG_LENGTH, collapsed,
     old_collapsed, pour_label, pour_node,
 };
+use crate::rule_traced;
 use crate::rule_wkt;
 
 pub const TOO_FEW_BYTES: u32 = refusal(1);
@@ -22,7 +23,7 @@ pub const BAD_VERSION: u32 = refusal(2);
 pub const BAD_KIND: u32 = refusal(3);
 
 /// The numbers that each function can give: a run that doesn't meet all of them has looked at too little.
-pub const REACHABLE: [(PlanOp, &[u32]); 14] = [
+pub const REACHABLE: [(PlanOp, &[u32]); 16] = [
     (PlanOp::Bundle, &[4, 5, 6, 7, 8]),
     (PlanOp::Star, &[4, 5, 6, 7, 8, 9, 12]),
     (PlanOp::Record, &[1, 2, 3, 4, 5, 6, 7, 8, 9]),
@@ -37,6 +38,8 @@ pub const REACHABLE: [(PlanOp, &[u32]); 14] = [
     (PlanOp::Pieces, &[1, 2, 3, 4, 5, 6, 7, 8, 9]),
     (PlanOp::ConvertRecord, &[1, 2, 3, 4, 5, 6, 7, 8, 9, 12]),
     (PlanOp::RegionName, &[12]),
+    (PlanOp::TracedRecord, &[1, 2, 3, 4, 5, 6, 7, 8, 9, 15]),
+    (PlanOp::TracedFloor, &[1, 2, 3, 4, 5, 6, 7, 8, 9, 15]),
 ];
 
 /// What the two versions of a record differ in. "Plan record version 2 has a two-byte count, up to 600 ends, length 8 +
@@ -113,6 +116,9 @@ fn outcome_by(call: &PlanCall, collapsed: Collapsed) -> PlanOutcome {
             Some(name) => put(call, name.as_bytes()),
             None => same(call, rule::NO_SUCH_ROW),
         },
+        PlanOp::TracedRecord | PlanOp::TracedFloor | PlanOp::TracedTranspose => {
+            rule_traced::outcome(call)
+        }
     }
 }
 

@@ -20,6 +20,7 @@ use crate::sample_outlines;
 use crate::sample_plans;
 use crate::sample_regions;
 use crate::sample_reports;
+use crate::sample_traced;
 use crate::sample_verdicts;
 use crate::sample_versions;
 use crate::sample_wkt;
@@ -86,6 +87,7 @@ pub fn main() {
         (sample_wkt::HEAD, sample_wkt::calls()),
         (sample_floors::HEAD, sample_floors::calls()),
         (sample_versions::HEAD, sample_versions::calls()),
+        (sample_traced::HEAD, sample_traced::calls()),
     ] {
         lines.push_str(head);
         met.extend(sample_plans::write_lines(&mut lines, &calls));

@@ -2,7 +2,7 @@
 
 use crate::floor_pieces::{accepted_node, any_floor, floor, quiet_floor};
 use crate::ours::plans::{PlanCall, PlanOp};
-use crate::plan_pieces::{edge_record, end, record};
+use crate::plan_pieces::{edge_record, one_a_refusal};
 use crate::random::Random;
 use crate::sample_line::MOST_GIVEN;
 
@@ -65,22 +65,7 @@ fn ended(random: &mut Random, calls: &mut Vec<PlanCall>) {
 
 /// Each number behind two accepted records, with one after it.
 fn refusals(random: &mut Random, calls: &mut Vec<PlanCall>) {
-    let one_side = [
-        end((1, 0), &[1, 0, 1, 3, 0, 0, 0]),
-        end((0, 1), &[1, 0, 0, 1, 0, 0, 0]),
-    ];
-    let refused = [
-        vec![0, 2, 2, 1],
-        vec![0, 2, 1, 3],
-        vec![0, 1, 1],
-        record(1, &[1, 1, 0, 0, 33]),
-        record(1, &[4, 1, 0, 0, 0]),
-        record(2, &[2, 1, 0, 0, 1, 0, 0]),
-        record(1, &[&[1, 1, 0, 0, 1][..], &[0; 15]].concat()),
-        record(1, &[&[1, 1, 0, 0, 2][..], one_side.as_flattened()].concat()),
-        vec![1, 0, 1],
-    ];
-    for bad in refused {
+    for bad in one_a_refusal(2) {
         let bytes = [quiet_floor(random, 2), bad, edge_record(random)].concat();
         calls.push(in_one_call(random.cells(), &bytes));
         let first = random.below(bytes.len());

@@ -6,6 +6,7 @@ use crate::listed;
 use crate::ours::floor_room::{self, FloorRoom};
 use crate::ours::plans::{self, PlanCall, PlanOp};
 use crate::ours::shape_room::ShapeRoom;
+use crate::ours::traced_room::TracedRoom;
 use crate::plan_pieces::{
     damage_ends, damaged_record, edge_record, end, ends, node_record, record, turned,
     with_bytes_after,
@@ -352,6 +353,9 @@ fn letter(op: PlanOp) -> char {
         PlanOp::Pieces => 'Y',
         PlanOp::ConvertRecord => 'Z',
         PlanOp::RegionName => 'n',
+        PlanOp::TracedRecord => 'x',
+        PlanOp::TracedFloor => 'f',
+        PlanOp::TracedTranspose => 't',
         PlanOp::OneByOne => unreachable!("the lines of records have these"),
     }
 }
@@ -418,6 +422,15 @@ fn given_and_due(call: &PlanCall, due: &PlanOutcome) -> (Vec<u8>, Vec<u8>) {
         PlanOp::Floor | PlanOp::OneByOne | PlanOp::Pieces => {
             (given, FloorRoom::from_le_bytes(&due.out).to_be_bytes())
         }
+        PlanOp::TracedRecord | PlanOp::TracedFloor | PlanOp::TracedTranspose => {
+            let (lent, left) = (&call.out, &due.out);
+            let [lent, left] = [lent, left].map(|room| TracedRoom::from_le_bytes(room));
+            let mut all = [&left.cells[..], &left.numbers_high_first()].concat();
+            if call.op == PlanOp::TracedFloor {
+                all.extend(left.answer.map(u64::to_be_bytes).as_flattened());
+            }
+            ([lent.numbers_high_first(), given].concat(), all)
+        }
     }
 }
 
@@ -455,6 +468,9 @@ fn write_line(lines: &mut String, call: &PlanCall, due: &PlanOutcome) {
         PlanOp::Pieces => {
             case.cells = FloorRoom::from_le_bytes(&call.out).cells;
             case.dimension = floor_room::counts(&call.out)[0] as u8;
+        }
+        PlanOp::TracedRecord | PlanOp::TracedFloor | PlanOp::TracedTranspose => {
+            case.cells = TracedRoom::from_le_bytes(&call.out).cells;
         }
     }
     case.write(lines, letter(call.op));

@@ -72,6 +72,7 @@ mod declared {
             dy: f64,
         ) -> u32;
 
+        pub safe fn misonkandi_traced_transpose(cells: &mut [u8; 9], numbers: &mut [u32; 10]);
         pub safe fn misonkandi_start(state: &mut Pieces, cells: &[u8; 9]);
         pub safe fn misonkandi_finish(
             state: &Pieces,
@@ -124,6 +125,19 @@ mod declared {
         pub fn misonkandi_record(cells: &mut [u8; 9], bytes: *const u8, count: usize) -> u32;
         pub fn misonkandi_floor(
             cells: &mut [u8; 9],
+            bytes: *const u8,
+            count: usize,
+            answer: &mut [u64; 2],
+        ) -> u32;
+        pub fn misonkandi_traced_record(
+            cells: &mut [u8; 9],
+            numbers: &mut [u32; 10],
+            bytes: *const u8,
+            count: usize,
+        ) -> u32;
+        pub fn misonkandi_traced_floor(
+            cells: &mut [u8; 9],
+            numbers: &mut [u32; 10],
             bytes: *const u8,
             count: usize,
             answer: &mut [u64; 2],
@@ -185,6 +199,7 @@ pub use declared::misonkandi_set as set;
 pub use declared::misonkandi_set_at_least as set_at_least;
 pub use declared::misonkandi_start as start;
 pub use declared::misonkandi_to_text as to_text;
+pub use declared::misonkandi_traced_transpose as traced_transpose;
 pub use declared::misonkandi_transpose as transpose;
 pub use declared::misonkandi_unpack as unpack;
 pub use declared::misonkandi_verdict as verdict;
@@ -284,6 +299,22 @@ pub fn record(cells: &mut [u8; 9], bytes: &[u8]) -> u32 {
 pub fn floor(cells: &mut [u8; 9], bytes: &[u8], answer: &mut [u64; 2]) -> u32 {
     // SAFETY: pointer and count are those of one slice, lent to be read until the call ends; both arrays lie elsewhere.
     unsafe { declared::misonkandi_floor(cells, bytes.as_ptr(), bytes.len(), answer) }
+}
+
+pub fn traced_record(cells: &mut [u8; 9], numbers: &mut [u32; 10], bytes: &[u8]) -> u32 {
+    // SAFETY: pointer and count are those of one slice, lent to be read until the call ends; both arrays lie elsewhere.
+    unsafe { declared::misonkandi_traced_record(cells, numbers, bytes.as_ptr(), bytes.len()) }
+}
+
+pub fn traced_floor(
+    cells: &mut [u8; 9],
+    numbers: &mut [u32; 10],
+    bytes: &[u8],
+    answer: &mut [u64; 2],
+) -> u32 {
+    let (start, count) = (bytes.as_ptr(), bytes.len());
+    // SAFETY: pointer and count are those of one slice, lent to be read until the call ends; the arrays lie elsewhere.
+    unsafe { declared::misonkandi_traced_floor(cells, numbers, start, count, answer) }
 }
 
 pub fn push(state: &mut Pieces, bytes: &[u8]) -> u32 {

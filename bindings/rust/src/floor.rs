@@ -18,14 +18,14 @@ pub struct Floor {
     pub used: u64,
     /// How many records were accepted.
     pub records: u64,
-    /// Why the first refused record is refused, if there is one: 1 to 9.
+    /// Why the first refused record is refused, if there is one: 1 to 9; of a [`Traced`](crate::Traced) 15 too.
     pub refusal: Option<Refusal>,
     cells: [u8; 9],
 }
 
 impl Floor {
     /// What a word of the library and what it wrote beside it say.
-    fn of(word: u32, cells: [u8; 9], [used, records]: [u64; 2]) -> Floor {
+    pub(crate) fn of(word: u32, cells: [u8; 9], [used, records]: [u64; 2]) -> Floor {
         Floor {
             used,
             records,

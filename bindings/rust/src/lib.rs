@@ -21,7 +21,8 @@
 //! # Ok::<(), Refusal>(())
 //! ```
 //!
-//! [`Masks`] asks one pattern of many matrices. [`floor`] pours a whole floor of records in one call, and [`Pieces`] one that comes in pieces. [`Outline`] says where
+//! [`Masks`] asks one pattern of many matrices. [`floor`] pours a whole floor of records in one call, and [`Pieces`] one
+//! that comes in pieces. [`Traced`] is a matrix that says which record made each cell. [`Outline`] says where
 //! a point lies against a room's walls. [`Shape`] is a point, a line or a polygon, read from WKT text and written as such.
 //! [`Region`] is Egenhofer's name of a matrix or of two boxes.
 //!
@@ -56,6 +57,7 @@ mod region;
 mod report;
 mod shape;
 mod star;
+mod traced;
 mod verdict;
 
 pub use conversion::{MOST_CONVERTED_BYTES, convert_record};
@@ -78,6 +80,7 @@ pub use star::{
 };
 #[cfg(feature = "alloc")]
 pub use star::{star, star_of_bytes};
+pub use traced::Traced;
 pub use verdict::Verdict;
 
 /// geo's module of this name. geo's own example of reading a matrix, with `misonkandi` for `geo`:

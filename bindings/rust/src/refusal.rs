@@ -1,4 +1,4 @@
-//! Why a call was refused: document 01's thirteen numbers, and those of requests.
+//! Why a call was refused: document 01's thirteen numbers, and those of requests.
 
 use core::error::Error;
 use core::fmt;
@@ -8,13 +8,13 @@ use crate::c;
 /// Why a call was refused. A refused call changes nothing that it was lent; of a floor it is a record that is refused, and
 /// the records before it stay.
 ///
-/// The numbers are those of document 01's table "Numbers the caller sees"; 14 is request R-3's of document 02, 16 to 18
-/// are R-8's, 19 and 22 R-9's. Under which condition each is given, and in which order they are looked at, is proved of
-/// the operation that gives it: `crates/de9im/specs/Patterns.antt` and `Text.antt` for 10 and 11,
-/// `crates/plan/specs/Record.antt` and `Floor.antt` for records, `crates/report/specs/Report.antt` and `Converting.antt`
-/// for reports, `crates/star/specs/Calls.antt` for ends, `crates/place/specs/Relate.antt` for 13,
-/// `crates/outline/specs/Answer.antt` for outlines, `crates/grammar/specs/ReadAs.antt` and
-/// `crates/wkt/specs/Write.antt` for shapes as text.
+/// The numbers are those of document 01's table "Numbers the caller sees"; 14 is request R-3's of document 02, 15 is R-7's,
+/// 16 to 18 are R-8's, 19 and 22 R-9's. Under which condition each is given, and in which order they are looked at, is
+/// proved of the operation that gives it: `crates/de9im/specs/Patterns.antt` and `Text.antt` for 10 and 11,
+/// `crates/plan/specs/Record.antt` and `Floor.antt` for records, `crates/traced/specs/Record.antt` for 15,
+/// `crates/report/specs/Report.antt` and `Converting.antt` for reports, `crates/star/specs/Calls.antt` for ends,
+/// `crates/place/specs/Relate.antt` for 13, `crates/outline/specs/Answer.antt` for outlines,
+/// `crates/grammar/specs/ReadAs.antt` and `crates/wkt/specs/Write.antt` for shapes as text.
 #[derive(Clone, Copy, Debug, PartialEq, Eq, Hash)]
 #[non_exhaustive]
 pub enum Refusal {
@@ -46,6 +46,8 @@ pub enum Refusal {
     NotAPlace,
     /// 14: one of the top six bits of a short report's cells is set.
     TopBits,
+    /// 15: no record number is left for a record that passes every other check.
+    NoNumberLeft,
     /// 16: an outline without 3 to 64 corners; a shape without 1 (a point), 2 to 64 (a line) or 3 to 64 (a ring); of
     /// numbers, an odd count too.
     CornerCount,
@@ -64,7 +66,7 @@ pub enum Refusal {
 pub type InvalidInputError = Refusal;
 
 impl Refusal {
-    /// Its number: 1 to 14, 16 to 19, or 22.
+    /// Its number: 1 to 19, or 22.
     #[must_use]
     pub const fn number(self) -> u32 {
         match self {
@@ -82,6 +84,7 @@ impl Refusal {
             Refusal::NoRoom => 12,
             Refusal::NotAPlace => 13,
             Refusal::TopBits => 14,
+            Refusal::NoNumberLeft => 15,
             Refusal::CornerCount => 16,
             Refusal::OutOfRange => 17,
             Refusal::EqualCorners => 18,
@@ -118,6 +121,7 @@ impl Refusal {
             12 => Refusal::NoRoom,
             13 => Refusal::NotAPlace,
             14 => Refusal::TopBits,
+            15 => Refusal::NoNumberLeft,
             16 => Refusal::CornerCount,
             17 => Refusal::OutOfRange,
             18 => Refusal::EqualCorners,
@@ -143,6 +147,7 @@ impl Refusal {
             Refusal::NoRoom => "no room from the offset",
             Refusal::NotAPlace => "a coordinate not finite, or a box without min < max",
             Refusal::TopBits => "a top bit of a short report's cells set",
+            Refusal::NoNumberLeft => "no record number left",
             Refusal::CornerCount => "a wrong count of corners",
             Refusal::OutOfRange => "a coordinate beyond 1,000,000,000",
             Refusal::EqualCorners => "two equal neighbouring corners",

@@ -77,7 +77,7 @@ fn the_header_s_functions_are_the_crate_s() {
     let (header, crate_s) = (header(), read("src/c.rs"));
     let names = declared(&header);
     assert_eq!(names, declared(&crate_s));
-    assert_eq!(names.len(), 41);
+    assert_eq!(names.len(), 44);
 }
 
 /// The lines between the braces of a struct, without what is said of them.
@@ -186,6 +186,7 @@ fn the_header_s_numbers_are_the_crate_s() {
         ("NO_ROOM", Refusal::NoRoom),
         ("NOT_A_PLACE", Refusal::NotAPlace),
         ("TOP_BITS", Refusal::TopBits),
+        ("NO_NUMBER_LEFT", Refusal::NoNumberLeft),
         ("CORNER_COUNT", Refusal::CornerCount),
         ("OUT_OF_RANGE", Refusal::OutOfRange),
         ("EQUAL_CORNERS", Refusal::EqualCorners),

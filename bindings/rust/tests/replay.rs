@@ -6,10 +6,9 @@ use std::fs;
 
 use misonkandi::{
     CoordPos, END_BYTES, EdgeEnd, IntersectionMatrix, LABEL_BYTES, Label, Masks, Outline, Pieces,
-    Place, Predicate, Refusal, Region, Shape, ShapeKind, Verdict, bundle, bundle_of_bytes,
-    convert_record,
-    convert_report, floor, point_in_outline, read_wkt, relate_coded, star, star_of_bytes,
-    write_star, write_wkt,
+    Place, Predicate, Refusal, Region, Shape, ShapeKind, Traced, Verdict, bundle, bundle_of_bytes,
+    convert_record, convert_report, floor, point_in_outline, read_wkt, relate_coded, star,
+    star_of_bytes, write_star, write_wkt,
 };
 
 const FOLDER: &str = concat!(env!("CARGO_MANIFEST_DIR"), "/../../crates/replay/");
@@ -377,6 +376,27 @@ fn room_case(kind: char, case: &Case) {
     }
 }
 
+/// x, f, t: the ten numbers stand before the record or the floor. What must stand afterwards are the cells, the numbers
+/// and, of a floor, its two answers.
+fn traced_case(kind: char, case: &Case) {
+    let (lent, bytes) = case.given.split_at(40);
+    let numbers = std::array::from_fn(|k| number(&lent[4 * k..4 * k + 4]));
+    let mut traced = Traced::from_parts(case.cells, numbers);
+    let mut counts = Vec::new();
+    match kind {
+        'x' => case.says(traced.pour_record(bytes).map(|used| used as u32)),
+        'f' => {
+            let told = traced.pour_floor(bytes);
+            case.says(told.refusal.map_or(Ok(0), Err));
+            assert_eq!(told.cells(), traced.cells());
+            counts.extend([told.used, told.records].map(u64::to_be_bytes).concat());
+        }
+        _ => traced = traced.transposed(),
+    }
+    let numbers = traced.numbers().map(u32::to_be_bytes);
+    case.holds(&[&traced.cells()[..], numbers.as_flattened(), &counts].concat());
+}
+
 fn coordinate(byte: u8) -> f64 {
     match byte {
         0xfc => -0.0,
@@ -503,6 +523,7 @@ fn every_stored_answer() {
             'N' | 'D' | 'E' | 'F' | 'C' | 'Z' => record_case(kind, &case),
             'A' | 'Y' => floor_case(kind, &case),
             'm' | 'p' | 'v' => room_case(kind, &case),
+            'x' | 'f' | 't' => traced_case(kind, &case),
             'G' => place_case(&case),
             'I' => outline_case(&case),
             'J' => read_case(&case),
@@ -517,7 +538,7 @@ fn every_stored_answer() {
     }
     assert_eq!(
         seen.len(),
-        33,
+        36,
         "a kind of line for each call of the library, one for the three of a floor in pieces and three for rooms"
     );
     // No line was passed over: the replay of the C interface has the same number.

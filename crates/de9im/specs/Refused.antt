@@ -1,5 +1,5 @@
--- Document 01, "Numbers the caller sees", request R-3's 14, request R-8's 16 to 18, request R-9's 19 and 22, and "If an answer is an
--- enum, a definition sets out this paper's number and values for each of the enum's cases."
+-- Document 01, "Numbers the caller sees", request R-3's 14, request R-7's 15, request R-8's 16 to 18, request R-9's 19 and 22, and "If
+-- an answer is an enum, a definition sets out this paper's number and values for each of the enum's cases."
 use Prim.Native.Nat.{ℕ}
 use Rattle.de9im.specs.declared.refusal.Refusal.{Refusal}
 use Rattle.de9im.specs.declared.refusal.Refusal.the-variants as R
@@ -21,6 +21,7 @@ numberOf (R.BadByte k) = 11
 numberOf R.NoRoom = 12
 numberOf R.NotAPlace = 13
 numberOf R.TopBits = 14
+numberOf R.NoNumberLeft = 15
 numberOf R.CornerCount = 16
 numberOf R.OutOfRange = 17
 numberOf R.EqualCorners = 18
@@ -43,6 +44,7 @@ placeOf (R.BadByte k) = At k
 placeOf R.NoRoom = Nowhere
 placeOf R.NotAPlace = Nowhere
 placeOf R.TopBits = Nowhere
+placeOf R.NoNumberLeft = Nowhere
 placeOf R.CornerCount = Nowhere
 placeOf R.OutOfRange = Nowhere
 placeOf R.EqualCorners = Nowhere

@@ -31,6 +31,8 @@ pub enum Refusal {
     NotAPlace,
     // One of the six bits above the cells of a short report is set.
     TopBits,
+    // No record number is left for a record that passes every other check.
+    NoNumberLeft,
     // An outline without 3 to 64 corners, or half a corner at the end of its numbers.
     CornerCount,
     // A coordinate beyond ±1,000,000,000, a corner's or the point's.
@@ -67,6 +69,7 @@ pub fn number(r: Refusal) -> u32
         Refusal::NoRoom => 12,
         Refusal::NotAPlace => 13,
         Refusal::TopBits => 14,
+        Refusal::NoNumberLeft => 15,
         Refusal::CornerCount => 16,
         Refusal::OutOfRange => 17,
         Refusal::EqualCorners => 18,
@@ -94,6 +97,7 @@ pub fn place(r: Refusal) -> Spot
         Refusal::NoRoom => Spot::Nowhere,
         Refusal::NotAPlace => Spot::Nowhere,
         Refusal::TopBits => Spot::Nowhere,
+        Refusal::NoNumberLeft => Spot::Nowhere,
         Refusal::CornerCount => Spot::Nowhere,
         Refusal::OutOfRange => Spot::Nowhere,
         Refusal::EqualCorners => Spot::Nowhere,

@@ -36,13 +36,13 @@ use Rattle.de9im.proofs.LawsRefused.{numbered}
 use Rattle.texts.specs.Words.{refusalWord as textWord}
 use Rattle.texts.proofs.LawsTold.{number-told}
 
--- the refusal with a number and a place: row n has number n; no refusal has the numbers 0, 15, 20 and 21, so no one asks for
+-- the refusal with a number and a place: row n has number n; no refusal has the numbers 0, 20 and 21, so no one asks for
 -- their rows
 abbrev refusals : ℕ → List Refusal
 refusals k =
     R.Short ∷ R.Short ∷ R.Version ∷ R.Kind ∷ R.Length ∷ R.Ends ∷ R.PositionCode ∷ R.LabelKind ∷ R.Direction ∷ R.MissingLeft ∷
-    R.NotNineBytes ∷ R.BadByte k ∷ R.NoRoom ∷ R.NotAPlace ∷ R.TopBits ∷ R.Short ∷ R.CornerCount ∷ R.OutOfRange ∷ R.EqualCorners ∷
-    R.BadText k ∷ R.Short ∷ R.Short ∷ R.RingOpen ∷ []
+    R.NotNineBytes ∷ R.BadByte k ∷ R.NoRoom ∷ R.NotAPlace ∷ R.TopBits ∷ R.NoNumberLeft ∷ R.CornerCount ∷ R.OutOfRange ∷
+    R.EqualCorners ∷ R.BadText k ∷ R.Short ∷ R.Short ∷ R.RingOpen ∷ []
 
 abbrev refusalAt : ℕ → ℕ → Refusal
 refusalAt n k = getD (refusals k) n R.Short
@@ -63,6 +63,7 @@ refusal-known (R.BadByte k) = refl
 refusal-known R.NoRoom = refl
 refusal-known R.NotAPlace = refl
 refusal-known R.TopBits = refl
+refusal-known R.NoNumberLeft = refl
 refusal-known R.CornerCount = refl
 refusal-known R.OutOfRange = refl
 refusal-known R.EqualCorners = refl

@@ -7,3 +7,4 @@ pub mod LawsStars
 pub mod LawsPlaces
 pub mod LawsVerdicts
 pub mod LawsRegions
+pub mod LawsTraced

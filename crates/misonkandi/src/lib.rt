@@ -12,6 +12,7 @@ pub mod rooms;
 pub mod rows;
 pub mod shapes;
 pub mod stars;
+pub mod tracing;
 pub mod verdicts;
 pub mod words;
 

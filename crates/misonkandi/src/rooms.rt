@@ -34,7 +34,8 @@ pub extern "C" fn misonkandi_unpack(room: u32, cells: &mut [u8; 9])
 #[no_mangle]
 pub extern "C" fn misonkandi_masks(pattern: &[u8], masks: &mut [u32; 4]) -> u32
     ensures { λ w. ⌜ (w ≡ checkedWord (maskedOf (now (pattern .entry)) .answer))
-        × (now (masks .exit) ≡ keptOr (maskedOf (now (pattern .entry)) .answer) (maskedOf (now (pattern .entry)) .masks) (now (masks .entry))) ⌝ }
+        × (now (masks .exit) ≡ keptOr (maskedOf (now (pattern .entry)) .answer) (maskedOf (now (pattern .entry)) .masks)
+        (now (masks .entry))) ⌝ }
 {
     let made = make(pattern);
     let answer = made.answer;

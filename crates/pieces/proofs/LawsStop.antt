@@ -26,28 +26,28 @@ use Rattle.pieces.specs.Stops.{rows, refusalOf, stopOf}
 -- a number that none of the rows has, as the last arm of the `match` is told
 abbrev NoRow : ℕ → Type 0
 NoRow n =
-    ((((((((((((((((Unit {0} × (n ≡ 1 → ⊥)) × (n ≡ 2 → ⊥)) × (n ≡ 3 → ⊥)) × (n ≡ 4 → ⊥)) × (n ≡ 5 → ⊥)) × (n ≡ 6 → ⊥)) × (n ≡ 7 → ⊥)) ×
-    (n ≡ 8 → ⊥)) × (n ≡ 9 → ⊥)) × (n ≡ 10 → ⊥)) × (n ≡ 12 → ⊥)) × (n ≡ 13 → ⊥)) × (n ≡ 14 → ⊥)) × (n ≡ 16 → ⊥)) × (n ≡ 17 → ⊥)) ×
-    (n ≡ 18 → ⊥))
+    (((((((((((((((((Unit {0} × (n ≡ 1 → ⊥)) × (n ≡ 2 → ⊥)) × (n ≡ 3 → ⊥)) × (n ≡ 4 → ⊥)) × (n ≡ 5 → ⊥)) × (n ≡ 6 → ⊥)) × (n ≡ 7 → ⊥)) ×
+    (n ≡ 8 → ⊥)) × (n ≡ 9 → ⊥)) × (n ≡ 10 → ⊥)) × (n ≡ 12 → ⊥)) × (n ≡ 13 → ⊥)) × (n ≡ 14 → ⊥)) × (n ≡ 15 → ⊥)) × (n ≡ 16 → ⊥)) ×
+    (n ≡ 17 → ⊥)) × (n ≡ 18 → ⊥))
 
 -- so it is read as the last
 pub no-row : (n : ℕ) → NoRow n → refusalOf n ≡ R.RingOpen
 no-row zero h = refl
-no-row (suc zero) h = absurd (h .0 .0 .0 .0 .0 .0 .0 .0 .0 .0 .0 .0 .0 .0 .0 .1 refl)
-no-row (suc (suc zero)) h = absurd (h .0 .0 .0 .0 .0 .0 .0 .0 .0 .0 .0 .0 .0 .0 .1 refl)
-no-row (suc (suc (suc zero))) h = absurd (h .0 .0 .0 .0 .0 .0 .0 .0 .0 .0 .0 .0 .0 .1 refl)
-no-row (suc (suc (suc (suc zero)))) h = absurd (h .0 .0 .0 .0 .0 .0 .0 .0 .0 .0 .0 .0 .1 refl)
-no-row (suc (suc (suc (suc (suc zero))))) h = absurd (h .0 .0 .0 .0 .0 .0 .0 .0 .0 .0 .0 .1 refl)
-no-row (suc (suc (suc (suc (suc (suc zero)))))) h = absurd (h .0 .0 .0 .0 .0 .0 .0 .0 .0 .0 .1 refl)
-no-row (suc (suc (suc (suc (suc (suc (suc zero))))))) h = absurd (h .0 .0 .0 .0 .0 .0 .0 .0 .0 .1 refl)
-no-row (suc (suc (suc (suc (suc (suc (suc (suc zero)))))))) h = absurd (h .0 .0 .0 .0 .0 .0 .0 .0 .1 refl)
-no-row (suc (suc (suc (suc (suc (suc (suc (suc (suc zero))))))))) h = absurd (h .0 .0 .0 .0 .0 .0 .0 .1 refl)
-no-row (suc (suc (suc (suc (suc (suc (suc (suc (suc (suc zero)))))))))) h = absurd (h .0 .0 .0 .0 .0 .0 .1 refl)
+no-row (suc zero) h = absurd (h .0 .0 .0 .0 .0 .0 .0 .0 .0 .0 .0 .0 .0 .0 .0 .0 .1 refl)
+no-row (suc (suc zero)) h = absurd (h .0 .0 .0 .0 .0 .0 .0 .0 .0 .0 .0 .0 .0 .0 .0 .1 refl)
+no-row (suc (suc (suc zero))) h = absurd (h .0 .0 .0 .0 .0 .0 .0 .0 .0 .0 .0 .0 .0 .0 .1 refl)
+no-row (suc (suc (suc (suc zero)))) h = absurd (h .0 .0 .0 .0 .0 .0 .0 .0 .0 .0 .0 .0 .0 .1 refl)
+no-row (suc (suc (suc (suc (suc zero))))) h = absurd (h .0 .0 .0 .0 .0 .0 .0 .0 .0 .0 .0 .0 .1 refl)
+no-row (suc (suc (suc (suc (suc (suc zero)))))) h = absurd (h .0 .0 .0 .0 .0 .0 .0 .0 .0 .0 .0 .1 refl)
+no-row (suc (suc (suc (suc (suc (suc (suc zero))))))) h = absurd (h .0 .0 .0 .0 .0 .0 .0 .0 .0 .0 .1 refl)
+no-row (suc (suc (suc (suc (suc (suc (suc (suc zero)))))))) h = absurd (h .0 .0 .0 .0 .0 .0 .0 .0 .0 .1 refl)
+no-row (suc (suc (suc (suc (suc (suc (suc (suc (suc zero))))))))) h = absurd (h .0 .0 .0 .0 .0 .0 .0 .0 .1 refl)
+no-row (suc (suc (suc (suc (suc (suc (suc (suc (suc (suc zero)))))))))) h = absurd (h .0 .0 .0 .0 .0 .0 .0 .1 refl)
 no-row (suc (suc (suc (suc (suc (suc (suc (suc (suc (suc (suc zero))))))))))) h = refl
-no-row (suc (suc (suc (suc (suc (suc (suc (suc (suc (suc (suc (suc zero)))))))))))) h = absurd (h .0 .0 .0 .0 .0 .1 refl)
-no-row (suc (suc (suc (suc (suc (suc (suc (suc (suc (suc (suc (suc (suc zero))))))))))))) h = absurd (h .0 .0 .0 .0 .1 refl)
-no-row (suc (suc (suc (suc (suc (suc (suc (suc (suc (suc (suc (suc (suc (suc zero)))))))))))))) h = absurd (h .0 .0 .0 .1 refl)
-no-row (suc (suc (suc (suc (suc (suc (suc (suc (suc (suc (suc (suc (suc (suc (suc zero))))))))))))))) h = refl
+no-row (suc (suc (suc (suc (suc (suc (suc (suc (suc (suc (suc (suc zero)))))))))))) h = absurd (h .0 .0 .0 .0 .0 .0 .1 refl)
+no-row (suc (suc (suc (suc (suc (suc (suc (suc (suc (suc (suc (suc (suc zero))))))))))))) h = absurd (h .0 .0 .0 .0 .0 .1 refl)
+no-row (suc (suc (suc (suc (suc (suc (suc (suc (suc (suc (suc (suc (suc (suc zero)))))))))))))) h = absurd (h .0 .0 .0 .0 .1 refl)
+no-row (suc (suc (suc (suc (suc (suc (suc (suc (suc (suc (suc (suc (suc (suc (suc zero))))))))))))))) h = absurd (h .0 .0 .0 .1 refl)
 no-row (suc (suc (suc (suc (suc (suc (suc (suc (suc (suc (suc (suc (suc (suc (suc (suc zero)))))))))))))))) h = absurd (h .0 .0 .1 refl)
 no-row (suc (suc (suc (suc (suc (suc (suc (suc (suc (suc (suc (suc (suc (suc (suc (suc (suc zero))))))))))))))))) h = absurd (h .0 .1 refl)
 no-row (suc (suc (suc (suc (suc (suc (suc (suc (suc (suc (suc (suc (suc (suc (suc (suc (suc (suc zero)))))))))))))))))) h =
@@ -70,6 +70,7 @@ refusal-back (R.BadByte k) e = nowhere-at (sym e)
 refusal-back R.NoRoom e = refl
 refusal-back R.NotAPlace e = refl
 refusal-back R.TopBits e = refl
+refusal-back R.NoNumberLeft e = refl
 refusal-back R.CornerCount e = refl
 refusal-back R.OutOfRange e = refl
 refusal-back R.EqualCorners e = refl

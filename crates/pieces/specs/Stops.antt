@@ -14,7 +14,7 @@ use Rattle.de9im.specs.declared.refusal.Refusal.the-variants as R
 abbrev pub rows : List Refusal
 rows =
     R.RingOpen ∷ R.Short ∷ R.Version ∷ R.Kind ∷ R.Length ∷ R.Ends ∷ R.PositionCode ∷ R.LabelKind ∷ R.Direction ∷ R.MissingLeft ∷
-    R.NotNineBytes ∷ R.RingOpen ∷ R.NoRoom ∷ R.NotAPlace ∷ R.TopBits ∷ R.RingOpen ∷ R.CornerCount ∷ R.OutOfRange ∷ R.EqualCorners ∷ []
+    R.NotNineBytes ∷ R.RingOpen ∷ R.NoRoom ∷ R.NotAPlace ∷ R.TopBits ∷ R.NoNumberLeft ∷ R.CornerCount ∷ R.OutOfRange ∷ R.EqualCorners ∷ []
 
 abbrev pub refusalOf : ℕ → Refusal
 refusalOf n = getD rows n R.RingOpen

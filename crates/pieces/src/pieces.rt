@@ -39,7 +39,8 @@ pub fn start(cells: Cells, state: &mut [u8; STATE])
 // A refused record is for good, but for one of which a part is missing.
 fn pushed(s: Counted, held: &mut [u8], chunk: &[u8]) -> Counted
     requires { ⌜ length (now held) ≡ frontSize ⌝ }
-    ensures { λ r. ⌜ ((ns bs : List ℕ) → HoldsIn ns bs s (now (held .entry)) → HoldsIn ns (bs ++ now (chunk .entry)) r (now (held .exit))) ⌝ }
+    ensures { λ r. ⌜ ((ns bs : List ℕ) → HoldsIn ns bs s (now (held .entry))
+        → HoldsIn ns (bs ++ now (chunk .entry)) r (now (held .exit))) ⌝ }
 {
     let floor = s.floor;
     let stop = floor.stop;

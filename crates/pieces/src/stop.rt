@@ -35,6 +35,7 @@ fn refusal_of(n: u32) -> Refusal
         12 => Refusal::NoRoom,
         13 => Refusal::NotAPlace,
         14 => Refusal::TopBits,
+        15 => Refusal::NoNumberLeft,
         16 => Refusal::CornerCount,
         17 => Refusal::OutOfRange,
         18 => Refusal::EqualCorners,

@@ -3,7 +3,8 @@
 -- (kind 1) or not 9 (kind 2) is 4; 5; length not 7 + 15n is 4; node and area positions 6; each end in turn 8, label kind 7, codes 6,
 -- sides 7; last 9. Kind 2: 7, 6, 7."
 -- Request R-11: "version 2 has a two-byte count, up to 600 ends, length 8 + 15n. Version 1 keeps its one byte and its 32. .. Kind 2 differs
--- only in the version byte. .. 2 now means neither 1 nor 2; 5 means above the version's own limit; kind 1 below length 8 in version 2 is 4."
+-- only in the version byte. .. 2 now means neither 1 nor 2; 5 means above the version's own limit; kind 1 below length 8 in version 2 is
+-- 4."
 use Prim.Native.Nat.{ℕ, _+_, _*_}
 use mathlib.Core.Bool.{Bool, cond, not, _||_}
 use mathlib.Core.List.{List}

@@ -8,6 +8,7 @@ use crate::plan_calls;
 use crate::region_calls;
 use crate::room_calls;
 use crate::shape_calls;
+use crate::traced_calls;
 ghost use mathlib.Core.Path.{_≡_};
 ghost use Prim.Native.Nat.{_+_, _≤_, _<_};
 ghost use lib.ListN.{length};
@@ -91,8 +92,8 @@ fn count(c: Case) -> usize
     least((256 * wide(c[22]) + wide(c[23])) as usize, 600)
 }
 
-// How many bytes a call may write: a label, a star's labels, cells and two answers, a text's answers and numbers, eleven verdicts, a
-// buffer within n bytes, or nine cells or letters.
+// How many bytes a call may write: a label, a star's labels, cells and two answers, a traced matrix alone and with them, a text's answers
+// and numbers, eleven verdicts, a buffer within n bytes, or nine cells or letters.
 fn room(letter: u8, n: usize) -> usize
     requires { ⌜ n ≤ 600 ⌝ }
     ensures { λ r. ⌜ n + r ≤ 1256 ⌝ }
@@ -101,6 +102,8 @@ fn room(letter: u8, n: usize) -> usize
         b'B' => 7,
         b'K' => 224,
         b'A' | b'Y' => 25,
+        b'x' | b't' => 49,
+        b'f' => 65,
         b'J' => 536,
         b'v' => 11,
         b'U' | b'Z' => n,
@@ -130,6 +133,9 @@ fn asked(letter: u8, h: Head, given: &[u8], due: &[u8]) -> bool {
         b'N' => plan_calls::record(h, given, due),
         b'A' => floor_calls::floor(h, given, due),
         b'Y' => floor_calls::in_pieces(h, given, due),
+        b'x' => traced_calls::record(h, given, due),
+        b'f' => traced_calls::floor(h, given, due),
+        b't' => traced_calls::transpose(h, given, due),
         b'D' => plan_calls::read_report(h, given, due),
         b'I' => outline_calls::point_in_outline(h, given),
         b'J' => shape_calls::read_wkt(h, given, due),

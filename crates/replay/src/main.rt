@@ -9,6 +9,7 @@ mod plan_calls;
 mod region_calls;
 mod room_calls;
 mod shape_calls;
+mod traced_calls;
 
 use libc::STDIN_FILENO;
 use libc::STDOUT_FILENO;

@@ -21,36 +21,44 @@ use Rattle.verdict.specs.declared.Verdict.the-variants.{YesForGood, NoFo
 use Rattle.verdict.specs.declared.pattern.Judged.{Judged}
 use Rattle.verdict.specs.declared.pattern.Judged.the-variants.{Is, Refused}
 use Rattle.verdict.specs.Judges.{Judges}
-use Rattle.verdict.specs.Means.{isBytes, Always, Sometimes, Means, matchOf}
+use Rattle.verdict.specs.Means.{isBytes, AlwaysBy, SometimesBy, MeansBy, Always, Means, matchOf}
 use Rattle.de9im.proofs.LawsBool.{clash}
 use Rattle.de9im.proofs.LawsApart.{impossible, fine-refused}
 
-module _ (answer : List ℕ → Bool) (ns : List ℕ) where
+-- of any step that takes no bytes for an accepted run
+module _ (ran : List ℕ → FloorAnswer) (none : ran [] .stop ≡ Fine) (answer : List ℕ → Bool) where
   -- what every run ends in, none can end otherwise in
-  yes-never : {A : Type 0} → Always answer true ns → Sometimes answer false ns → A
+  yes-never : {A : Type 0} → AlwaysBy ran answer true → SometimesBy ran answer false → A
   yes-never f s = clash (f (s .run) (s .bytes) (s .accepted)) (s .says)
 
-  no-never : {A : Type 0} → Always answer false ns → Sometimes answer true ns → A
+  no-never : {A : Type 0} → AlwaysBy ran answer false → SometimesBy ran answer true → A
   no-never f s = clash (s .says) (f (s .run) (s .bytes) (s .accepted))
 
-  -- no bytes are an accepted run
+  pub one-by : (v w : Verdict) → MeansBy ran v answer → MeansBy ran w answer → v ≡ w
+  one-by YesForGood YesForGood f g = refl
+  one-by YesForGood NoForGood f g = clash (f [] refl none) (g [] refl none)
+  one-by YesForGood Open f g = yes-never f (g .ends-no)
+  one-by NoForGood YesForGood f g = clash (g [] refl none) (f [] refl none)
+  one-by NoForGood NoForGood f g = refl
+  one-by NoForGood Open f g = no-never f (g .ends-yes)
+  one-by Open YesForGood f g = yes-never g (f .ends-no)
+  one-by Open NoForGood f g = no-never g (f .ends-yes)
+  one-by Open Open f g = refl
+
+  -- given exactly when
+  pub exactly-by : (v w : Verdict) → MeansBy ran v answer → (v ≡ w → MeansBy ran w answer) × (MeansBy ran w answer → v ≡ w)
+  exactly-by v w f = (λ e. subst (λ (x : Verdict). MeansBy ran x answer) e f, one-by v w f)
+
+-- of document 01's
+module _ (answer : List ℕ → Bool) (ns : List ℕ) where
   none : floorOf ns [] .stop ≡ Fine
   none = ap (λ (x : FloorAnswer). x .stop) (floor-empty ns)
 
   pub one-verdict : (v w : Verdict) → Means v answer ns → Means w answer ns → v ≡ w
-  one-verdict YesForGood YesForGood f g = refl
-  one-verdict YesForGood NoForGood f g = clash (f [] refl none) (g [] refl none)
-  one-verdict YesForGood Open f g = yes-never f (g .ends-no)
-  one-verdict NoForGood YesForGood f g = clash (g [] refl none) (f [] refl none)
-  one-verdict NoForGood NoForGood f g = refl
-  one-verdict NoForGood Open f g = no-never f (g .ends-yes)
-  one-verdict Open YesForGood f g = yes-never g (f .ends-no)
-  one-verdict Open NoForGood f g = no-never g (f .ends-yes)
-  one-verdict Open Open f g = refl
+  one-verdict = one-by (floorOf ns) none answer
 
-  -- given exactly when
   pub exactly-when : (v w : Verdict) → Means v answer ns → (v ≡ w → Means w answer ns) × (Means w answer ns → v ≡ w)
-  exactly-when v w f = (λ e. subst (λ (x : Verdict). Means x answer ns) e f, one-verdict v w f)
+  exactly-when = exactly-by (floorOf ns) none answer
 
 -- what every run ends in, every run after another ends in, be that one stopped at a refused record or not
 pub always-stays : (answer : List ℕ → Bool) (y : Bool) (ns s : List ℕ) → isBytes s ≡ true → Always answer y ns

@@ -16,6 +16,7 @@ use Rattle.de9im.specs.declared.patterns.Matched.the-variants.{Yes, No, Refused
 use Rattle.de9im.specs.Cells.{matrixOf}
 use Rattle.de9im.specs.Patterns.{matchesOf}
 use Rattle.predicates.specs.Predicates.{holds}
+use Rattle.plan.specs.declared.floor.FloorAnswer.{FloorAnswer}
 use Rattle.plan.specs.Floor.{floorOf}
 use Rattle.verdict.specs.declared.Verdict.{Verdict}
 use Rattle.verdict.specs.declared.Verdict.the-variants.{YesForGood, NoForGood, Open}
@@ -38,24 +39,38 @@ abbrev pub isBytes : List ℕ → Bool
 isBytes [] = true
 isBytes (b ∷ bs) = ltb b 256 && isBytes bs
 
+-- Runs of any step: `ran s` is what a string of bytes makes of a matrix, up to the first refused record.
 -- the answer after every accepted run
-abbrev pub Always : (List ℕ → Bool) → Bool → List ℕ → Type 0
-Always answer b ns = (s : List ℕ) → isBytes s ≡ true → floorOf ns s .stop ≡ Fine → answer (floorOf ns s .cells) ≡ b
+abbrev pub AlwaysBy : (List ℕ → FloorAnswer) → (List ℕ → Bool) → Bool → Type 0
+AlwaysBy ran answer b = (s : List ℕ) → isBytes s ≡ true → ran s .stop ≡ Fine → answer (ran s .cells) ≡ b
 
 -- the answer after some accepted run of at most nine records
-pub record Sometimes (answer : List ℕ → Bool) (b : Bool) (ns : List ℕ) : Type 0 where
+pub record SometimesBy (ran : List ℕ → FloorAnswer) (answer : List ℕ → Bool) (b : Bool) : Type 0 where
   pub run : List ℕ
   pub bytes : isBytes run ≡ true
-  pub accepted : floorOf ns run .stop ≡ Fine
-  pub few : floorOf ns run .records ≤ 9
-  pub says : answer (floorOf ns run .cells) ≡ b
+  pub accepted : ran run .stop ≡ Fine
+  pub few : ran run .records ≤ 9
+  pub says : answer (ran run .cells) ≡ b
 
-pub record Both (answer : List ℕ → Bool) (ns : List ℕ) : Type 0 where
-  pub ends-yes : Sometimes answer true ns
-  pub ends-no : Sometimes answer false ns
+pub record BothBy (ran : List ℕ → FloorAnswer) (answer : List ℕ → Bool) : Type 0 where
+  pub ends-yes : SometimesBy ran answer true
+  pub ends-no : SometimesBy ran answer false
 
 -- what each verdict says
+abbrev pub MeansBy : (List ℕ → FloorAnswer) → Verdict → (List ℕ → Bool) → Type 0
+MeansBy ran YesForGood answer = AlwaysBy ran answer true
+MeansBy ran NoForGood answer = AlwaysBy ran answer false
+MeansBy ran Open answer = BothBy ran answer
+
+-- Document 01's: records poured into nine numbers, by `floorOf`
+abbrev pub Always : (List ℕ → Bool) → Bool → List ℕ → Type 0
+Always answer b ns = AlwaysBy (floorOf ns) answer b
+
+abbrev pub Sometimes : (List ℕ → Bool) → Bool → List ℕ → Type 0
+Sometimes answer b ns = SometimesBy (floorOf ns) answer b
+
+abbrev pub Both : (List ℕ → Bool) → List ℕ → Type 0
+Both answer ns = BothBy (floorOf ns) answer
+
 abbrev pub Means : Verdict → (List ℕ → Bool) → List ℕ → Type 0
-Means YesForGood answer ns = Always answer true ns
-Means NoForGood answer ns = Always answer false ns
-Means Open answer ns = Both answer ns
+Means v answer ns = MeansBy (floorOf ns) v answer

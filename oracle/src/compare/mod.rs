@@ -15,6 +15,7 @@ mod reports;
 mod stars;
 mod tally;
 mod text;
+mod traced;
 mod verdicts;
 mod wkt;
 mod wkt_written;
@@ -90,7 +91,7 @@ impl Run {
 fn argument(place: usize, default: u64) -> u64 {
     match std::env::args().nth(place) {
         Some(word) => word.parse().unwrap_or_else(|_| {
-            eprintln!("usage: compare [SEED [MULTIPLIER [ends]]]   (whole numbers)");
+            eprintln!("usage: compare [SEED [MULTIPLIER [ends | traced]]]   (whole numbers)");
             std::process::exit(2)
         }),
         None => default,
@@ -113,10 +114,15 @@ pub fn main() -> i32 {
     };
     println!("seed {seed}, random counts times {multiplier}");
     println!("the library is {}", run.library.way());
-    // Request R-11's part alone: the report then has answers that were never met.
-    if std::env::args().nth(3).is_some_and(|word| word == "ends") {
-        many_ends::compare(&mut run);
-        conversions::compare(&mut run);
+    // Request R-11's or R-7's part alone: the report then has answers that were never met.
+    if let Some(part) = std::env::args().nth(3) {
+        match part.as_str() {
+            "traced" => traced::compare(&mut run),
+            _ => {
+                many_ends::compare(&mut run);
+                conversions::compare(&mut run);
+            }
+        }
         run.answer_waiting();
         return run.tally.report();
     }
@@ -140,6 +146,7 @@ pub fn main() -> i32 {
     many_ends::compare(&mut run);
     conversions::compare(&mut run);
     regions::compare(&mut run);
+    traced::compare(&mut run);
     run.answer_waiting();
     run.tally.report()
 }

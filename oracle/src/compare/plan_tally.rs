@@ -6,6 +6,7 @@ use crate::listed::{self, Listed};
 use crate::ours::floor_room::{self, FloorRoom};
 use crate::ours::plans::{PlanCall, PlanOp, PlanReply};
 use crate::ours::shape_room::ShapeRoom;
+use crate::ours::traced_room::TracedRoom;
 use crate::rule;
 use crate::rule_plan::{self, Form, PlanOutcome, REACHABLE};
 use crate::rule_star::{END_BYTES, LABEL_BYTES, SINGLE_SIDE};
@@ -257,6 +258,10 @@ fn describe(call: &PlanCall) -> String {
             format!(" on cells {}, pieces {counts:?}", hex(&cells))
         }
         PlanOp::RegionName => format!(" of {} at {}", call.a, call.offset),
+        PlanOp::TracedRecord | PlanOp::TracedFloor | PlanOp::TracedTranspose => {
+            let TracedRoom { cells, numbers, .. } = TracedRoom::from_le_bytes(&call.out);
+            format!(" on cells {}, numbers {numbers:?}", hex(&cells))
+        }
     };
     format!("{}{given}, bytes {}", call.op.name(), hex(&call.bytes))
 }

@@ -15,6 +15,9 @@ mod floors;
 pub mod linked;
 pub mod plans;
 pub mod shape_room;
+#[cfg(all(linked, not(far)))]
+mod traced;
+pub mod traced_room;
 
 use plans::{PlanCall, PlanReply};
 

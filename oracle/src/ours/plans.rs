@@ -13,6 +13,9 @@ use super::floors;
 #[cfg(all(linked, not(far)))]
 use super::linked;
 use super::shape_room::ShapeRoom;
+#[cfg(all(linked, not(far)))]
+use super::traced;
+use super::traced_room::TracedRoom;
 
 /// Room for the labels of a star of so many ends, and of most stars that are asked about: 32 of seven bytes.
 pub const fn room_for(ends: usize) -> usize {
@@ -45,6 +48,9 @@ pub enum PlanOp {
     Pieces = 12,
     ConvertRecord = 13,
     RegionName = 40,
+    TracedRecord = 50,
+    TracedFloor = 51,
+    TracedTranspose = 52,
 }
 
 impl PlanOp {
@@ -66,6 +72,9 @@ impl PlanOp {
             PlanOp::Pieces => "misonkandi_finish",
             PlanOp::ConvertRecord => "misonkandi_convert_record",
             PlanOp::RegionName => "misonkandi_region_name",
+            PlanOp::TracedRecord => "misonkandi_traced_record",
+            PlanOp::TracedFloor => "misonkandi_traced_floor",
+            PlanOp::TracedTranspose => "misonkandi_traced_transpose",
         }
     }
 }
@@ -210,6 +219,15 @@ impl PlanCall {
         }
     }
 
+    /// On a traced matrix; transposing has no bytes.
+    pub fn traced(op: PlanOp, cells: [u8; 9], numbers: [u32; 10], bytes: Vec<u8>) -> Self {
+        PlanCall {
+            op,
+            out: TracedRoom::on(cells, numbers).to_le_bytes(),
+            ..PlanCall::bundle(bytes)
+        }
+    }
+
     /// The numbers of an outline, or of a shape that is written.
     pub fn numbers(&self) -> Vec<i32> {
         match self.op {
@@ -292,7 +310,15 @@ pub(super) fn answer(call: &PlanCall) -> PlanReply {
         let word = read_wkt(call, &mut lent);
         return reply(call, word, &lent);
     }
-    if matches!(call.op, PlanOp::Floor | PlanOp::OneByOne | PlanOp::Pieces) {
+    if matches!(
+        call.op,
+        PlanOp::Floor
+            | PlanOp::OneByOne
+            | PlanOp::Pieces
+            | PlanOp::TracedRecord
+            | PlanOp::TracedFloor
+            | PlanOp::TracedTranspose
+    ) {
         let word = floor(call, &mut lent);
         return reply(call, word, &lent);
     }
@@ -319,7 +345,10 @@ pub(super) fn answer(call: &PlanCall) -> PlanReply {
         | PlanOp::ReadWkt
         | PlanOp::Floor
         | PlanOp::OneByOne
-        | PlanOp::Pieces => unreachable!("made above"),
+        | PlanOp::Pieces
+        | PlanOp::TracedRecord
+        | PlanOp::TracedFloor
+        | PlanOp::TracedTranspose => unreachable!("made above"),
     };
     reply(call, word, &lent)
 }
@@ -359,7 +388,13 @@ fn read_wkt(call: &PlanCall, lent: &mut [u8]) -> u32 {
 fn floor(call: &PlanCall, lent: &mut [u8]) -> u32 {
     let (front, back) = lent.split_at_mut(call.bytes_at().start);
     let bytes = &back[..call.bytes.len()];
-    let (word, left) = floors::answer(call.op, &mut front[call.out_at()], bytes);
+    let out = &mut front[call.out_at()];
+    let (word, left) = match call.op {
+        PlanOp::TracedRecord | PlanOp::TracedFloor | PlanOp::TracedTranspose => {
+            traced::answer(call.op, out, bytes)
+        }
+        _ => floors::answer(call.op, out, bytes),
+    };
     if !left {
         front[0] = !GUARD_BYTE;
     }

@@ -24,4 +24,5 @@ refusal-of-spec =
     (λ c. search needs)
     (λ c. search needs)
     (λ c. search needs)
+    (λ c. search needs)
     (λ c. sym (no-row _ (c .match .rest))))

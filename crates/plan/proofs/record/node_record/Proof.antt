@@ -11,7 +11,8 @@ use Rattle.plan.proofs.record.node_record.Tie as tie
 returns : tie.Need-returns
 returns c =
     let b = c .before .before .before .before .before in
-    c .refused .ensures ∙ rw (node-short (formOf (b .args .version)) (b .args .s .now) (omega (arith, c .before .before .base-of .ensures .0))) refl
+    c .refused .ensures ∙
+    rw (node-short (formOf (b .args .version)) (b .args .s .now) (omega (arith, c .before .before .base-of .ensures .0))) refl
 
 returns-2 : tie.Need-returns-2
 returns-2 c =

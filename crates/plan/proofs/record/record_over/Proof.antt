@@ -30,24 +30,28 @@ returns-4 c =
 
 returns-5 : tie.Need-returns-5
 returns-5 c =
-    let s = c .before .before .before .before .before .before .before .before .before .before .before .before .before .before .before .before .before .args in
-    let v = sym (c .before .before .before .before .before .before .before .is-version .ensures) ∙ not-false _ (c .before .before .before .before .before .before .if4 .left) in
+    let k = c .before .before .before .before .before .before in
+    let s = k .before .before .before .before .before .before .before .before .before .before .before .args in
+    let v = sym (k .before .is-version .ensures) ∙ not-false _ (k .if4 .left) in
     c .before .before .node-record .ensures ∙
     sym (a-node (s .cells) (s .s .now) (omega arith) (omega arith) (omega arith) v (c .before .before .before .before .if5 .taken))
 
 returns-6 : tie.Need-returns-6
 returns-6 c =
-    let s = c .before .before .before .before .before .before .before .before .before .before .before .before .before .before .before .args in
-    let v = sym (c .before .before .before .before .before .is-version .ensures) ∙ not-false _ (c .before .before .before .before .if4 .left) in
+    let k = c .before .before .before .before in
+    let s = k .before .before .before .before .before .before .before .before .before .before .before .args in
+    let v = sym (k .before .is-version .ensures) ∙ not-false _ (k .if4 .left) in
     c .edge-record .ensures ∙
     sym (an-edge (s .cells) (s .s .now) (omega arith) (omega arith) (omega arith) v (c .before .before .if5 .left) (c .before .if6 .taken))
 
 returns-7 : tie.Need-returns-7
 returns-7 c =
-    let s = c .before .before .before .before .before .before .before .before .before .before .before .before .before .before .before .args in
-    let v = sym (c .before .before .before .before .before .is-version .ensures) ∙ not-false _ (c .before .before .before .before .if4 .left) in
+    let k = c .before .before .before .before in
+    let s = k .before .before .before .before .before .before .before .before .before .before .before .args in
+    let v = sym (k .before .is-version .ensures) ∙ not-false _ (k .if4 .left) in
     c .refused5 .ensures ∙
-    sym (other-kind (s .cells) (s .s .now) (omega arith) (omega arith) (omega arith) v (c .before .before .if5 .left) (c .before .if6 .left))
+    sym (other-kind (s .cells) (s .s .now) (omega arith) (omega arith) (omega arith) v (c .before .before .if5 .left)
+    (c .before .if6 .left))
 
 pub record-over-spec : {M : Type 1} → statement M
 record-over-spec =
