@@ -18,13 +18,15 @@ use frame::words::two_bytes;
 use star::pouring::Node;
 use star::pouring::pour_bundles;
 use star::pouring::pour_edge;
+ghost use mathlib.Core.Bool.{false};
 ghost use mathlib.Core.List.{List};
 ghost use mathlib.Core.Path.{_≡_};
-ghost use Prim.Native.Nat.{_+_, _*_, _≤_};
+ghost use Prim.Native.Nat.{_+_, _*_, _≤_, _<_};
 ghost use lib.ListN.{length, take};
 ghost use Rattle.ends.specs.declared.«edge_end».EdgeEnd.{EdgeEnd};
 ghost use Rattle.bundles.specs.Shown.{Bundles};
 ghost use Rattle.frame.specs.Words.{promised};
+ghost use Rattle.plan.specs.Inner.Gathering.{Places};
 ghost use Rattle.plan.specs.Inner.Reading.{nodeFault};
 ghost use Rattle.plan.specs.Said.{formOf, edgeOf, withEnds, nodeBody, nodeOf};
 ghost use Rattle.plan.specs.Record.{refusedAs, pouredBy, recordOf};
@@ -106,27 +108,16 @@ fn pour_ends(
     pour_node(cells, used, node, out, count)
 }
 
-fn pour_few(cells: Cells, s: &[u8], used: usize, at: usize, n: usize) -> BytesAnswer
-    requires { ⌜ (n ≤ 32) × (8 ≤ at) × (at + 15 * n ≤ length (now s)) ⌝ }
-    requires { ⌜ nodeFault (now s) ≡ Checked.Fine ⌝ }
-    ensures { λ x. ⌜ x ≡ pouredBy cells used (nodeBody n at (now (s .entry))) ⌝ }
-{
-    let mut out = [0u32; 32];
-    pour_ends(cells, s, used, at, n, &mut out)
-}
-
-fn pour_many(cells: Cells, s: &[u8], used: usize, at: usize, n: usize) -> BytesAnswer
-    requires { ⌜ (n ≤ 600) × (8 ≤ at) × (at + 15 * n ≤ length (now s)) ⌝ }
-    requires { ⌜ nodeFault (now s) ≡ Checked.Fine ⌝ }
-    ensures { λ x. ⌜ x ≡ pouredBy cells used (nodeBody n at (now (s .entry))) ⌝ }
-{
-    let mut out = [0u32; 600];
-    pour_ends(cells, s, used, at, n, &mut out)
-}
-
-// A node of n ends whose count and length are right. One of few ends doesn't pay for 600.
-fn node_body(cells: Cells, s: &[u8], used: usize, at: usize, n: usize) -> BytesAnswer
-    requires { ⌜ (n ≤ 600) × (8 ≤ at) × (at + 15 * n ≤ length (now s)) ⌝ }
+// A node of n ends whose count and length are right.
+fn node_body(
+    cells: Cells,
+    s: &[u8],
+    used: usize,
+    at: usize,
+    n: usize,
+    out: &mut [u32],
+) -> BytesAnswer
+    requires { ⌜ (n ≤ 600) × (8 ≤ at) × (at + 15 * n ≤ length (now s)) × (n ≤ length (now out)) × (4 ≤ length (now out)) ⌝ }
     ensures { λ x. ⌜ x ≡ pouredBy cells used (nodeBody n at (now (s .entry))) ⌝ }
 {
     let fault = node_fault(s);
@@ -136,15 +127,13 @@ fn node_body(cells: Cells, s: &[u8], used: usize, at: usize, n: usize) -> BytesA
             cells,
         };
     };
-    if n <= 32 {
-        return pour_few(cells, s, used, at, n);
-    }
-    pour_many(cells, s, used, at, n)
+    pour_ends(cells, s, used, at, n, out)
 }
 
 // Kind 1, of n bytes.
-fn node_record(cells: Cells, s: &[u8], n: usize, version: u8) -> BytesAnswer
+fn node_record(cells: Cells, s: &[u8], n: usize, version: u8, out: &mut [u32]) -> BytesAnswer
     requires { ⌜ (n ≡ promised (now s)) × (2 + n ≤ length (now s)) ⌝ }
+    requires { ⌜ Places (now s) (now out) ⌝ }
     ensures { λ x. ⌜ x ≡ pouredBy cells (2 + promised (now (s .entry))) (nodeOf (formOf version) (now (s .entry))) ⌝ }
 {
     let base = base_of(version);
@@ -158,11 +147,12 @@ fn node_record(cells: Cells, s: &[u8], n: usize, version: u8) -> BytesAnswer
     if n != base + 15 * count {
         return refused(Refusal::Length, cells);
     }
-    node_body(cells, s, 2 + n, 2 + base, count)
+    node_body(cells, s, 2 + n, 2 + base, count, out)
 }
 
-// One record from the front of s; bytes after it don't matter.
-pub fn record(cells: Cells, s: &[u8]) -> BytesAnswer
+// One record from the front of s, over places that are lent for its bundles.
+fn record_over(cells: Cells, s: &[u8], out: &mut [u32]) -> BytesAnswer
+    requires { ⌜ Places (now s) (now out) ⌝ }
     ensures { λ x. ⌜ x ≡ recordOf cells (now (s .entry)) ⌝ }
 {
     if s.len() < 2 {
@@ -181,10 +171,32 @@ pub fn record(cells: Cells, s: &[u8]) -> BytesAnswer
     }
     let kind = s[3];
     if kind == 1 {
-        return node_record(cells, s, n, version);
+        return node_record(cells, s, n, version, out);
     }
     if kind == 2 {
         return edge_record(cells, s, n);
     }
     refused(Refusal::Kind, cells)
+}
+
+// Whether a record may have more than 32 ends, by its length.
+fn is_long(s: &[u8]) -> bool
+    ensures { λ r. ⌜ (r ≡ false → promised (now (s .entry)) < 502) ⌝ }
+{
+    if s.len() < 2 {
+        return true;
+    }
+    501 < two_bytes(s[0], s[1])
+}
+
+// One record from the front of s; bytes after it don't matter. A node of few ends doesn't pay for 600 places.
+pub fn record(cells: Cells, s: &[u8]) -> BytesAnswer
+    ensures { λ x. ⌜ x ≡ recordOf cells (now (s .entry)) ⌝ }
+{
+    if is_long(s) {
+        let mut out = [0u32; 600];
+        return record_over(cells, s, &mut out);
+    }
+    let mut out = [0u32; 32];
+    record_over(cells, s, &mut out)
 }

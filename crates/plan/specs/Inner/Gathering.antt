@@ -1,6 +1,6 @@
 -- How the code reads the ends of a node: into four sums, or into columns (crate bundles), and what it makes of them. Nobody has to believe
 -- these: the laws of proofs/LawsGathering.antt lead from them to readEnds.
-use Prim.Native.Nat.{ℕ, _≤_}
+use Prim.Native.Nat.{ℕ, _+_, _*_, _≤_}
 use mathlib.Core.Path.{_≡_}
 use mathlib.Core.List.{List}
 use lib.IntN.{ℤ}
@@ -14,6 +14,7 @@ use Rattle.bundles.specs.Columns.{Columns}
 use Rattle.bundles.specs.Shown.{shownWord, Bundles}
 use Rattle.bundles.specs.Square.{Sums}
 use Rattle.frame.specs.Read.{good, bad}
+use Rattle.frame.specs.Words.{promised}
 use Rattle.plan.specs.declared.«node_ends».JoinedEnds.{JoinedEnds}
 use Rattle.plan.specs.declared.«node_ends».NodeEnds.{NodeEnds}
 use Rattle.plan.specs.EndBytes.{Ends, readEnds}
@@ -61,3 +62,8 @@ GatheredBy (Refused q) (bad r) k out = q ≡ r
 pub record Gathered (x : Ends) (r : NodeEnds) (out : List ℕ) : Type 0 where
   pub few : r .count ≤ length out
   pub by : GatheredBy (r .answer) x (r .count) out
+
+-- places for the bundles of as many ends as a record of this length can have
+pub record Places (s out : List ℕ) : Type 0 where
+  pub some : 4 ≤ length out
+  pub enough : (k : ℕ) → k ≤ 600 → 7 + 15 * k ≤ promised s → k ≤ length out

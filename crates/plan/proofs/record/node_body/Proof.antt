@@ -1,4 +1,4 @@
--- The positions' fault, and then the ends, over as many places as they need.
+-- The positions' fault, and then the ends.
 use borrow.Author.Needs.{needs}
 use native.Mathlib.Omega.{arith}
 use mathlib.Core.Path.{refl, sym, _∙_}
@@ -11,14 +11,11 @@ returns : tie.Need-returns
 unfolding nodeBody
 returns c =
     let f = c .before .before .before in
-    let s = c .before .before .before .before .before .args .s .now in
+    let s = c .before .before .before .before .before .before .args .s .now in
     rw (c .none-used .ensures, node-reading s, ← f .node-fault .ensures, c .before .enum-told2 .given .1) refl
 
-pour-few-requires : tie.Need-pour-few-requires
-pour-few-requires c κs = (search needs, sym (c .before .before .before .node-fault .ensures) ∙ c .before .enum-told .given .1)
-
-pour-many-requires : tie.Need-pour-many-requires
-pour-many-requires c κs = (search needs, sym (c .before .before .before .node-fault .ensures) ∙ c .before .enum-told .given .1)
+pour-ends-requires : tie.Need-pour-ends-requires
+pour-ends-requires c κs = (search needs, sym (c .before .before .before .node-fault .ensures) ∙ c .before .enum-told .given .1)
 
 pub node-body-spec : {M : Type 1} → statement M
 node-body-spec =
@@ -29,7 +26,6 @@ node-body-spec =
     (λ c. search needs)
     (λ c κs. search needs)
     returns
-    pour-few-requires
+    pour-ends-requires
     (λ c. search needs)
-    pour-many-requires
     (λ c. search needs))

@@ -1,80 +1,22 @@
--- Each branch is one step of `saidOf`, and a law of the record order says what the record is there.
+-- Over as many places as the record's length can ask for.
 use borrow.Author.Needs.{needs}
 use native.Mathlib.Omega.{arith}
-use borrow.Author.Tests.{not-true, not-false}
-use mathlib.Core.Path.{sym, _∙_}
-use Rattle.plan.proofs.LawsRecordOrder.{no-field, no-body, too-short, other-version, a-node, an-edge, other-kind}
 use Rattle.plan.proofs.record.record.Statement.{statement}
 use Rattle.plan.proofs.record.record.Tie as tie
 
-returns : tie.Need-returns
-returns c =
-    let s = c .before .before .before .args in
-    c .refused .ensures ∙ sym (no-field (s .cells) (s .s .now) (omega arith))
-
-returns-2 : tie.Need-returns-2
-returns-2 c =
-    let s = c .before .before .before .before .before .before .before .args in
-    c .refused2 .ensures ∙ sym (no-body (s .cells) (s .s .now) (omega arith) (omega arith))
-
-returns-3 : tie.Need-returns-3
-returns-3 c =
-    let s = c .before .before .before .before .before .before .before .before .args in
-    c .refused3 .ensures ∙ sym (too-short (s .cells) (s .s .now) (omega arith) (omega arith) (omega arith))
-
-returns-4 : tie.Need-returns-4
-returns-4 c =
-    let s = c .before .before .before .before .before .before .before .before .before .before .before .args in
-    c .refused4 .ensures ∙
-    sym (other-version (s .cells) (s .s .now) (omega arith) (omega arith) (omega arith) (sym
-    (c .before .before .is-version .ensures) ∙ not-true _ (c .before .if4 .taken)))
-
-returns-5 : tie.Need-returns-5
-returns-5 c =
-    let s = c .before .before .before .before .before .before .before .before .before .before .before .before .before .args in
-    c .node-record .ensures ∙
-    sym (a-node (s .cells) (s .s .now) (omega arith) (omega arith) (omega arith) (sym
-    (c .before .before .before .before .is-version .ensures) ∙ not-false _ (c .before .before .before .if4 .left))
-    (c .before .if5 .taken))
-
-returns-6 : tie.Need-returns-6
-returns-6 c =
-    let s = c .before .before .before .before .before .before .before .before .before .before .before .before .before .before .args in
-    c .edge-record .ensures ∙
-    sym (an-edge (s .cells) (s .s .now) (omega arith) (omega arith) (omega arith) (sym
-    (c .before .before .before .before .before .is-version .ensures) ∙ not-false _ (c .before .before .before .before .if4 .left))
-    (c .before .before .if5 .left) (c .before .if6 .taken))
-
-returns-7 : tie.Need-returns-7
-returns-7 c =
-    let s = c .before .before .before .before .before .before .before .before .before .before .before .before .before .before .args in
-    c .refused5 .ensures ∙
-    sym (other-kind (s .cells) (s .s .now) (omega arith) (omega arith) (omega arith) (sym
-    (c .before .before .before .before .before .is-version .ensures) ∙ not-false _ (c .before .before .before .before .if4 .left))
-    (c .before .before .if5 .left) (c .before .if6 .left))
+record-over-requires-2 : tie.Need-record-over-requires-2
+record-over-requires-2 c κs =
+    let short = c .before .before .is-long .ensures (c .before .if1 .left) in
+    record { some = search needs; enough = λ k h l. omega (arith, short) }
 
 pub record-spec : {M : Type 1} → statement M
 record-spec =
     tie.close
     (tie.spec
     (λ c κs. search needs)
-    returns
-    (λ c. search needs)
     (λ c. search needs)
     (λ c κs. search needs)
     (λ c. search needs)
-    (λ c κs. search needs)
-    returns-2
-    (λ c κs. search needs)
-    returns-3
     (λ c. search needs)
-    (λ c κs. search needs)
-    (λ c κs. search needs)
-    returns-4
-    (λ c. search needs)
-    (λ c κs. search needs)
-    returns-5
-    (λ c κs. search needs)
-    returns-6
-    (λ c κs. search needs)
-    returns-7)
+    record-over-requires-2
+    (λ c. search needs))
