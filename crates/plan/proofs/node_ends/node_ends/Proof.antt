@@ -39,14 +39,23 @@ same-length-2 c = search needs
 returns-2 : tie.Need-returns-2
 returns-2 c = search needs
 
-ordered-many-requires : tie.Need-ordered-many-requires
-ordered-many-requires c κs = search needs
+ordered-more-requires : tie.Need-ordered-more-requires
+ordered-more-requires c κs = search needs
 
 same-length-3 : tie.Need-same-length-3
 same-length-3 c = search needs
 
 returns-3 : tie.Need-returns-3
 returns-3 c = search needs
+
+ordered-many-requires : tie.Need-ordered-many-requires
+ordered-many-requires c κs = search needs
+
+same-length-4 : tie.Need-same-length-4
+same-length-4 c = search needs
+
+returns-4 : tie.Need-returns-4
+returns-4 c = search needs
 
 pub node-ends-spec : {M : Type 1} → statement M
 node-ends-spec =
@@ -60,6 +69,9 @@ node-ends-spec =
     ordered-few-requires
     same-length-2
     returns-2
-    ordered-many-requires
+    ordered-more-requires
     same-length-3
-    returns-3)
+    returns-3
+    ordered-many-requires
+    same-length-4
+    returns-4)
