@@ -13,8 +13,8 @@ ghost use Rattle.bundles.specs.Marks.{markWord};
 ghost use Rattle.plan.specs.EndBytes.{dirAt};
 ghost use Rattle.plan.specs.Inner.Reading.{endFault, labelRead};
 
-// The end at a place of the bytes, which is good, at place i of the columns. All is read before anything is written: the compiler can't tell
-// that a column isn't the bytes, and would load them again.
+// The end at a place of the bytes, which is good, at place i of the columns. All is read before anything is written: the compiler can't
+// tell that a column isn't the bytes, and would load them again.
 pub(crate) fn put_end_at(
     s: &[u8],
     at: usize,
