@@ -104,6 +104,22 @@ pub fn predicates(matrix: &IntersectionMatrix) -> u32 {
         | u32::from(matrix.is_overlaps()) << 10
 }
 
+/// The same as eleven bytes, 1 or 0, each written where the caller wants it.
+#[inline]
+pub fn answers(matrix: &IntersectionMatrix, answers: &mut [u8; 11]) {
+    answers[0] = u8::from(matrix.is_disjoint());
+    answers[1] = u8::from(matrix.is_intersects());
+    answers[2] = u8::from(matrix.is_within());
+    answers[3] = u8::from(matrix.is_contains());
+    answers[4] = u8::from(matrix.is_equal_topo());
+    answers[5] = u8::from(matrix.is_coveredby());
+    answers[6] = u8::from(matrix.is_covers());
+    answers[7] = u8::from(matrix.is_contains_properly());
+    answers[8] = u8::from(matrix.is_touches());
+    answers[9] = u8::from(matrix.is_crosses());
+    answers[10] = u8::from(matrix.is_overlaps());
+}
+
 /// A text is a `&str` there: bytes that aren't UTF-8 can't be asked.
 fn matches(call: &Call) -> Option<Said> {
     let pattern = std::str::from_utf8(call.text()).ok()?;

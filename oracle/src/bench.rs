@@ -246,19 +246,63 @@ fn measure_verdicts(name: &str, inputs: &[Input]) {
     );
 }
 
-/// The same in one call.
+/// The verdicts of all eleven in one call.
+fn verdicts(input: &Input) -> [u8; 11] {
+    let mut verdicts = [0; 11];
+    linked::verdicts(&input.cells, &mut verdicts);
+    verdicts
+}
+
+/// The same in one call: eleven bytes on both sides, in an array of the caller's that anybody may read, of which one is read.
+/// Neither side's array is copied: to take one out of the call whole is to load words over bytes that were only just stored
+/// one by one, and the processor waits there for longer than either side works.
 fn measure_verdicts_at_once(name: &str, inputs: &[Input]) {
+    let due = |input: &Input| {
+        std::array::from_fn(|row| rule_verdict::predicate(&input.cells, row as u32) as u8)
+    };
+    if THERE {
+        let all = inputs.iter().all(|input| verdicts(input) == due(input));
+        assert!(all, "{name}: the library's answers aren't document 01's");
+    }
     measure(
         name,
         inputs,
-        |input| asked::predicates(&input.matrix),
+        |input| {
+            let mut answers = [0; 11];
+            asked::answers(&input.matrix, &mut answers);
+            black_box(&answers)[0]
+        },
         |input| {
             let mut verdicts = [0; 11];
             linked::verdicts(&input.cells, &mut verdicts);
-            verdicts
+            black_box(&verdicts)[0]
         },
-        |input| std::array::from_fn(|row| rule_verdict::predicate(&input.cells, row as u32) as u8),
+        |input| due(input)[0],
     );
+}
+
+/// The same, each of the eleven bytes read on both sides and put into one number.
+fn measure_verdicts_read(name: &str, inputs: &[Input]) {
+    measure(
+        name,
+        inputs,
+        |input| {
+            let mut answers = [0; 11];
+            asked::answers(&input.matrix, &mut answers);
+            read_all(black_box(&answers))
+        },
+        |input| {
+            let mut verdicts = [0; 11];
+            linked::verdicts(&input.cells, &mut verdicts);
+            read_all(black_box(&verdicts))
+        },
+        |input| all_eleven(|which| rule_verdict::predicate(&input.cells, which)),
+    );
+}
+
+/// Eleven bytes in one number, each read by itself.
+fn read_all(bytes: &[u8; 11]) -> u32 {
+    all_eleven(|which| u32::from(bytes[which as usize]))
 }
 
 /// The crate has no verdict: its side is `matches` of the same pattern.
@@ -295,9 +339,10 @@ fn measure_asking_many(random: &mut Random) {
     let any = inputs(random, |random, _| good_pattern(random));
     measure_predicates("all eleven predicates of one matrix", &any);
     measure_verdicts_at_once(
-        "verdicts of all eleven predicates in one call, beside the crate's eleven answers",
+        "verdicts of all eleven predicates in one call, beside the crate's eleven answers as bytes",
         &any,
     );
+    measure_verdicts_read("the same, each of the eleven bytes read", &any);
     bench_masks::measure_all();
 }
 
@@ -351,9 +396,10 @@ pub fn main() {
         &any,
     );
     measure_verdicts_at_once(
-        "verdicts of all eleven predicates in one call, beside the crate's eleven answers",
+        "verdicts of all eleven predicates in one call, beside the crate's eleven answers as bytes",
         &any,
     );
+    measure_verdicts_read("the same, each of the eleven bytes read", &any);
     measure_verdict_pattern(
         "verdict of a random good pattern, beside the crate's `matches` of it",
         &any,

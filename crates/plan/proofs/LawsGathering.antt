@@ -1,5 +1,5 @@
 -- What the ends of a node come to, from what was read. Assumes nothing.
-use Prim.Native.Nat.{ℕ, _≤_}
+use Prim.Native.Nat.{ℕ, _≤_, _<_}
 use mathlib.Core.Path.{_≡_, refl, sym, _∙_}
 use mathlib.Core.List.{List}
 use native.Mathlib.Omega.{arith}
@@ -16,7 +16,7 @@ use Rattle.bundles.specs.Shown.{Bundles}
 use Rattle.bundles.proofs.LawsColumns.{columns-cut, columns-lent}
 use Rattle.frame.specs.Read.{good, bad}
 use Rattle.plan.specs.EndBytes.{Ends, readEnds}
-use Rattle.plan.specs.Inner.Gathering.{AllRead, Kept, ReadBy, GatheredBy}
+use Rattle.plan.specs.Inner.Gathering.{AllRead, Kept, ReadBy, GatheredBy, CountedBy}
 use Rattle.plan.proofs.LawsEnds.{read-length}
 
 module _ (x : Ends) (c : Checked) (k : ℕ) (out : List ℕ) where
@@ -45,6 +45,30 @@ module _ (x : Ends) (c : Checked) (k : ℕ) (out : List ℕ) where
       by : (y : Ends) → x ≡ y → GatheredBy Fine y k out → Opened
       by (good es) q h = record { ends = es; read = q; bundles = h }
       by (bad r) q h = absurd h
+
+-- the same by one number
+module _ (n : ℕ) (x : Ends) (k : ℕ) (out : List ℕ) where
+  pub counted-bad : (r : Refusal) → x ≡ bad r → k ≡ 1024 → CountedBy n x k out
+  counted-bad r e f = rw e f
+
+  pub counted-good : (es : List EdgeEnd) → x ≡ good es → k ≤ n → k ≤ length out → Bundles es (take k out) → CountedBy n x k out
+  counted-good es e h l b = rw e (h, l, b)
+
+  -- opened again
+  pub counted-opened : n ≤ 600 → k ≤ n → CountedBy n x k out → (k ≤ length out) × GatheredBy Fine x k out
+  counted-opened h l g = by x g
+    where
+      by : (y : Ends) → CountedBy n y k out → (k ≤ length out) × GatheredBy Fine y k out
+      by (good es) i = (i .1, i .2)
+      by (bad r) i = absurd (omega arith)
+
+-- more bundles than ends: then reading once more meets a refusal
+pub refused-again : (c : Checked) (K : List EdgeEnd → Type 0) (n : ℕ) (s : List ℕ) (at k : ℕ) (out : List ℕ) → n < k
+    → CountedBy n (readEnds n s at) k out → ReadBy c K n s at → (j : ℕ) → GatheredBy c (readEnds n s at) j out
+refused-again Fine K n s at k out h g a j =
+    let i : CountedBy n (good (a .ends)) k out = rw (a .read) at g in
+    absurd (omega (arith, i .0))
+refused-again (Refused r) K n s at k out h g a j = rw a refl
 
 -- ends in columns are what ordering and bundling ask for
 module _ (n : ℕ) (s : List ℕ) (at : ℕ) (xs ys : List ℤ) (marks words : List ℕ) (few : n ≤ 1024) (long : n ≤ length words)

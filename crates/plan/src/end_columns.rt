@@ -13,7 +13,8 @@ ghost use Rattle.bundles.specs.Marks.{markWord};
 ghost use Rattle.plan.specs.EndBytes.{dirAt};
 ghost use Rattle.plan.specs.Inner.Reading.{endFault, labelRead};
 
-// The end at a place of the bytes, which is good, at place i of the columns.
+// The end at a place of the bytes, which is good, at place i of the columns. All is read before anything is written: the compiler can't
+// tell that a column isn't the bytes, and would load them again.
 pub(crate) fn put_end_at(
     s: &[u8],
     at: usize,
@@ -29,8 +30,10 @@ pub(crate) fn put_end_at(
 {
     let x = four_bytes_at(s, at);
     let y = four_bytes_at(s, at + 4);
+    let m = mark_at(s, at + 8);
+    let w = word(key(x, y), i);
     xs[i] = signed_of(x);
     ys[i] = signed_of(y);
-    marks[i] = mark_at(s, at + 8);
-    words[i] = word(key(x, y), i);
+    marks[i] = m;
+    words[i] = w;
 }

@@ -19,7 +19,7 @@ ghost use Prim.Native.Nat.{_+_, _*_, _≤_};
 ghost use lib.ListN.{length};
 ghost use Rattle.bundles.specs.Square.{Sums};
 ghost use Rattle.plan.specs.EndBytes.{readEnds};
-ghost use Rattle.plan.specs.Inner.Gathering.{SquareRead, JoinedRead, Wide, ColumnsRead, Gathered};
+ghost use Rattle.plan.specs.Inner.Gathering.{SquareRead, JoinedRead, Wide, ColumnsRead, CountedBy, Gathered};
 
 // Whether all ends were read, or the first refusal; how many bundles there are, as numbers in what was lent.
 pub struct NodeEnds {
@@ -110,7 +110,10 @@ pub fn join_ends(s: &[u8], at: usize, n: usize) -> JoinedEnds
     }
 }
 
-// n ends put in order, over columns that are lent.
+// In place of a count of bundles, where some end can't be read.
+const NOT_READ: usize = 1024;
+
+// n ends put in order, over columns that are lent: how many bundles there are. A number, since it is handed on in a register.
 fn ordered(
     s: &[u8],
     at: usize,
@@ -121,23 +124,45 @@ fn ordered(
     words: &mut [u32],
     spare: &mut [u32],
     out: &mut [u32],
-) -> NodeEnds
+) -> usize
     requires { ⌜ (at + 15 * n ≤ length (now s)) × (n ≤ length (now spare)) × (n ≤ length (now out)) ⌝ }
     requires { ⌜ Wide n (now xs) (now ys) (now marks) (now words) ⌝ }
-    ensures { λ r. ⌜ Gathered (readEnds n (now (s .entry)) at) r (now (out .exit)) ⌝ }
+    ensures { λ r. ⌜ CountedBy n (readEnds n (now (s .entry)) at) r (now (out .exit)) ⌝ }
 {
     let answer = read_columns(s, at, n, xs, ys, marks, words);
     let Checked::Fine = answer else {
-        return NodeEnds { answer, count: 0 };
+        return NOT_READ;
     };
-    let count = bundles(xs, ys, marks, &mut words[..n], &mut spare[..n], out);
-    NodeEnds { answer, count }
+    bundles(xs, ys, marks, &mut words[..n], &mut spare[..n], out)
 }
 
-// Columns of 32, and of 600: the one proof serves both.
-fn ordered_few(s: &[u8], at: usize, n: usize, out: &mut [u32]) -> NodeEnds
+// Columns of 8, of 32 and of 600: the one proof serves all. To fill columns of 32 with zeros would cost a node of four ends a tenth of its
+// time.
+fn ordered_few(s: &[u8], at: usize, n: usize, out: &mut [u32]) -> usize
+    requires { ⌜ (n ≤ 8) × (at + 15 * n ≤ length (now s)) × (n ≤ length (now out)) ⌝ }
+    ensures { λ r. ⌜ CountedBy n (readEnds n (now (s .entry)) at) r (now (out .exit)) ⌝ }
+{
+    let mut xs = [0i32; 8];
+    let mut ys = [0i32; 8];
+    let mut marks = [0u32; 8];
+    let mut words = [0u32; 8];
+    let mut spare = [0u32; 8];
+    ordered(
+        s,
+        at,
+        n,
+        &mut xs,
+        &mut ys,
+        &mut marks,
+        &mut words,
+        &mut spare,
+        out,
+    )
+}
+
+fn ordered_more(s: &[u8], at: usize, n: usize, out: &mut [u32]) -> usize
     requires { ⌜ (n ≤ 32) × (at + 15 * n ≤ length (now s)) × (n ≤ length (now out)) ⌝ }
-    ensures { λ r. ⌜ Gathered (readEnds n (now (s .entry)) at) r (now (out .exit)) ⌝ }
+    ensures { λ r. ⌜ CountedBy n (readEnds n (now (s .entry)) at) r (now (out .exit)) ⌝ }
 {
     let mut xs = [0i32; 32];
     let mut ys = [0i32; 32];
@@ -157,9 +182,9 @@ fn ordered_few(s: &[u8], at: usize, n: usize, out: &mut [u32]) -> NodeEnds
     )
 }
 
-fn ordered_many(s: &[u8], at: usize, n: usize, out: &mut [u32]) -> NodeEnds
+fn ordered_many(s: &[u8], at: usize, n: usize, out: &mut [u32]) -> usize
     requires { ⌜ (n ≤ 600) × (at + 15 * n ≤ length (now s)) × (n ≤ length (now out)) ⌝ }
-    ensures { λ r. ⌜ Gathered (readEnds n (now (s .entry)) at) r (now (out .exit)) ⌝ }
+    ensures { λ r. ⌜ CountedBy n (readEnds n (now (s .entry)) at) r (now (out .exit)) ⌝ }
 {
     let mut xs = [0i32; 600];
     let mut ys = [0i32; 600];
@@ -179,7 +204,21 @@ fn ordered_many(s: &[u8], at: usize, n: usize, out: &mut [u32]) -> NodeEnds
     )
 }
 
-// The bundles of n ends from a place on, or the first refusal. Few ends don't pay for 600 places.
+// Few ends don't pay for 600 places.
+fn ordered_by(s: &[u8], at: usize, n: usize, out: &mut [u32]) -> usize
+    requires { ⌜ (n ≤ 600) × (at + 15 * n ≤ length (now s)) × (n ≤ length (now out)) ⌝ }
+    ensures { λ r. ⌜ CountedBy n (readEnds n (now (s .entry)) at) r (now (out .exit)) ⌝ }
+{
+    if n <= 8 {
+        return ordered_few(s, at, n, out);
+    }
+    if n <= 32 {
+        return ordered_more(s, at, n, out);
+    }
+    ordered_many(s, at, n, out)
+}
+
+// The bundles of n ends from a place on, or the first refusal, which is found by reading once more.
 pub fn node_ends(s: &[u8], at: usize, n: usize, out: &mut [u32]) -> NodeEnds
     requires { ⌜ (n ≤ 600) × (at + 15 * n ≤ length (now s)) × (n ≤ length (now out)) × (4 ≤ length (now out)) ⌝ }
     ensures { λ r. ⌜ Gathered (readEnds n (now (s .entry)) at) r (now (out .exit)) ⌝ }
@@ -192,8 +231,14 @@ pub fn node_ends(s: &[u8], at: usize, n: usize, out: &mut [u32]) -> NodeEnds
             count,
         };
     }
-    if n <= 32 {
-        return ordered_few(s, at, n, out);
+    let count = ordered_by(s, at, n, out);
+    if n < count {
+        let again = join_ends(s, at, n);
+        let answer = again.answer;
+        return NodeEnds { answer, count: 0 };
     }
-    ordered_many(s, at, n, out)
+    NodeEnds {
+        answer: Checked::Fine,
+        count,
+    }
 }

@@ -179,24 +179,29 @@ fn record_over(cells: Cells, s: &[u8], out: &mut [u32]) -> BytesAnswer
     refused(Refusal::Kind, cells)
 }
 
-// Whether a record may have more than 32 ends, by its length.
-fn is_long(s: &[u8]) -> bool
-    ensures { λ r. ⌜ (r ≡ false → promised (now (s .entry)) < 502) ⌝ }
+// Whether a record may have more than k ends, by its length: with one more it has 22 + 15 * k bytes at least.
+fn is_long(s: &[u8], k: usize) -> bool
+    requires { ⌜ k ≤ 600 ⌝ }
+    ensures { λ r. ⌜ (r ≡ false → promised (now (s .entry)) < 22 + 15 * k) ⌝ }
 {
     if s.len() < 2 {
         return true;
     }
-    501 < two_bytes(s[0], s[1])
+    21 + 15 * k < two_bytes(s[0], s[1])
 }
 
 // One record from the front of s; bytes after it don't matter. A node of few ends doesn't pay for 600 places.
 pub fn record(cells: Cells, s: &[u8]) -> BytesAnswer
     ensures { λ x. ⌜ x ≡ recordOf cells (now (s .entry)) ⌝ }
 {
-    if is_long(s) {
+    if is_long(s, 32) {
         let mut out = [0u32; 600];
         return record_over(cells, s, &mut out);
     }
-    let mut out = [0u32; 32];
+    if is_long(s, 8) {
+        let mut out = [0u32; 32];
+        return record_over(cells, s, &mut out);
+    }
+    let mut out = [0u32; 8];
     record_over(cells, s, &mut out)
 }

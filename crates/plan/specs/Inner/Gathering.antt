@@ -59,6 +59,11 @@ GatheredBy Fine (bad r) k out = ⊥
 GatheredBy (Refused q) (good es) k out = ⊥
 GatheredBy (Refused q) (bad r) k out = q ≡ r
 
+-- the same by one number: of n ends at most n bundles; 1024 where some end can't be read
+abbrev pub CountedBy : ℕ → Ends → ℕ → List ℕ → Type 0
+CountedBy n (good es) k out = (k ≤ n) × (k ≤ length out) × Bundles es (take k out)
+CountedBy n (bad r) k out = k ≡ 1024
+
 pub record Gathered (x : Ends) (r : NodeEnds) (out : List ℕ) : Type 0 where
   pub few : r .count ≤ length out
   pub by : GatheredBy (r .answer) x (r .count) out

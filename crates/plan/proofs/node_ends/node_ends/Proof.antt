@@ -1,9 +1,12 @@
--- The sums are those of the ends that were read; where they aren't, the ends are put in order.
+-- The sums are those of the ends that were read; where they aren't, the ends are put in order, or read once more for the first refusal.
 use borrow.Author.Needs.{needs}
 use native.Mathlib.Omega.{arith}
-use mathlib.Core.Path.{refl}
+use Prim.Native.Nat.{_≤_}
+use mathlib.Core.Path.{_≡_, refl}
+use Rattle.ends.specs.Bundle.{joinOf}
+use Rattle.bundles.specs.Shown.{shownWord}
 use Rattle.plan.specs.EndBytes.{readEnds}
-use Rattle.plan.proofs.LawsGathering.{gathered-good}
+use Rattle.plan.proofs.LawsGathering.{gathered-good, counted-opened, refused-again}
 use Rattle.plan.proofs.node_ends.node_ends.Statement.{statement}
 use Rattle.plan.proofs.node_ends.node_ends.Tie as tie
 
@@ -30,23 +33,24 @@ returns c =
       by = gathered-good (readEnds (s .n) (s .s .now) (s .at)) _ _ _ (a .ends) refl (a .read) (q .1 (a .ends) (a .kept));
     }
 
-ordered-few-requires : tie.Need-ordered-few-requires
-ordered-few-requires c κs = search needs
-
-same-length-2 : tie.Need-same-length-2
-same-length-2 c = search needs
-
 returns-2 : tie.Need-returns-2
-returns-2 c = search needs
-
-ordered-many-requires : tie.Need-ordered-many-requires
-ordered-many-requires c κs = search needs
-
-same-length-3 : tie.Need-same-length-3
-same-length-3 c = search needs
+returns-2 c =
+    let o = c .before .before .before .before .ordered-by in
+    let s = c .before .before .before .before .before .before .before .before .before .before .before .before .args in
+    let j = c .join-ends in
+    record {
+      few = omega arith;
+      by = refused-again (j .result .answer) (λ es. shownWord (j .result .word) ≡ joinOf es) (s .n) (s .s .now) (s .at) (o .result) _
+          (c .before .if2 .taken) (o .ensures) (j .ensures) 0;
+    }
 
 returns-3 : tie.Need-returns-3
-returns-3 c = search needs
+returns-3 c =
+    let o = c .before .before .before .ordered-by in
+    let s = c .before .before .before .before .before .before .before .before .before .before .before in
+    let k : o .result ≤ s .args .n = omega (arith, c .if2 .left) in
+    let g = counted-opened (s .args .n) (readEnds (s .args .n) (s .args .s .now) (s .args .at)) (o .result) _ (s .pre .0) k (o .ensures) in
+    record { few = g .0; by = g .1 }
 
 pub node-ends-spec : {M : Type 1} → statement M
 node-ends-spec =
@@ -57,9 +61,9 @@ node-ends-spec =
     square-bundles-requires
     same-length
     returns
-    ordered-few-requires
-    same-length-2
+    (λ c κs. search needs)
+    (λ c κs. search needs)
+    (λ c. search needs)
     returns-2
-    ordered-many-requires
-    same-length-3
+    (λ c. search needs)
     returns-3)

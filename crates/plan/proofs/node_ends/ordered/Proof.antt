@@ -2,11 +2,11 @@
 use borrow.Author.Needs.{needs}
 use native.Mathlib.Omega.{arith}
 use Prim.Native.Nat.{_≤_}
-use mathlib.Core.Path.{_≡_, sym, _∙_}
+use mathlib.Core.Path.{_≡_, refl, sym, _∙_}
 use lib.ListN.{length, take}
 use lib.Seq.{length-take-le}
 use Rattle.plan.specs.EndBytes.{readEnds}
-use Rattle.plan.proofs.LawsGathering.{gathered-bad, gathered-good, read-lent, read-bundles, read-few}
+use Rattle.plan.proofs.LawsGathering.{counted-bad, counted-good, read-lent, read-bundles, read-few}
 use Rattle.plan.proofs.node_ends.ordered.Statement.{statement}
 use Rattle.plan.proofs.node_ends.ordered.Tie as tie
 
@@ -14,7 +14,7 @@ returns : tie.Need-returns
 returns c =
     let told = c .enum-told2 .given .1 in
     let r = c .before .before .before .before .before .before .before .before .read-columns in
-    record { few = omega arith; by = gathered-bad _ _ 0 _ _ told (rw told at (r .ensures)) }
+    counted-bad _ _ _ _ _ (rw told at (r .ensures)) refl
 
 slice-aggregate-bundles : tie.Need-slice-aggregate-bundles
 slice-aggregate-bundles c =
@@ -49,11 +49,8 @@ returns-2 c =
     .given .1 in
     let a = rw told at (r .ensures) in
     let few = read-few (b .args .n) (b .args .s .now) (b .args .at) _ _ _ _ (b .pre .1 .few) (search needs) a _ _ (k .ensures) in
-    record {
-      few = search needs;
-      by = gathered-good (readEnds (b .args .n) (b .args .s .now) (b .args .at)) _ _ _ (a .ends) told (a .read)
-          (read-bundles (b .args .n) (b .args .s .now) (b .args .at) _ _ _ _ (b .pre .1 .few) (search needs) a _ _ (k .ensures));
-    }
+    counted-good _ (readEnds (b .args .n) (b .args .s .now) (b .args .at)) _ _ (a .ends) (a .read) few (search needs)
+    (read-bundles (b .args .n) (b .args .s .now) (b .args .at) _ _ _ _ (b .pre .1 .few) (search needs) a _ _ (k .ensures))
 
 pub ordered-spec : {M : Type 1} → statement M
 ordered-spec =

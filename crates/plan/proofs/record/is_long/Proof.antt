@@ -9,13 +9,15 @@ returns : tie.Need-returns
 returns c = λ e. impossible (cc)
 
 returns-2 : tie.Need-returns-2
-returns-2 c = λ e. omega (arith, ltb-false 501 (c .two-bytes .result) e)
+returns-2 c = λ e. omega (arith, ltb-false _ (c .two-bytes .result) e)
 
 pub is-long-spec : {M : Type 1} → statement M
 is-long-spec =
     tie.close
     (tie.spec
     returns
+    (λ c. search needs)
+    (λ c. search needs)
     (λ c. search needs)
     (λ c. search needs)
     (λ c κs. search needs)
