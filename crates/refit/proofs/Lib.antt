@@ -1,0 +1,3 @@
+-- Facts about the definitions of specs/, each stated once.
+pub mod LawsShort
+pub mod LawsWindow

@@ -1,0 +1,1 @@
+// A whole file judged, window by window.
