@@ -42,3 +42,13 @@ pub record Fills (stood : List ℕ) (ended : Bool) (reads : ℕ) (b : List ℕ) 
   pub cost : length new + size * w .left ≤ size * reads
   pub stays : ended ≡ true → (new ≡ []) × (w .ended ≡ true)
   pub ready : w .ended ≡ false → short (windowOf b w) ≡ false
+
+-- how many reads of one file there may be: as many buffers hold 2^63 bytes
+abbrev pub mostReads : ℕ
+mostReads = 70368744177664
+
+abbrev pub startWindow : Window
+startWindow = record { from = 0; to = 0; ended = false; failed = false; left = mostReads }
+
+abbrev pub advancedBy : Window → ℕ → Window
+advancedBy w n = record { from = w .from + n; to = w .to; ended = w .ended; failed = w .failed; left = w .left }

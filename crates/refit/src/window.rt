@@ -8,7 +8,7 @@ ghost use Prim.Native.Nat.{_+_, _*_, _-_, _≤_, _<_};
 ghost use lib.ListN.{length, take, drop};
 ghost use Rattle.channel.specs.Reading.{Fits};
 ghost use Rattle.frame.specs.Rules.{short};
-ghost use Rattle.refit.specs.Window.{size, Whole, cameOf, Brought, Fills};
+ghost use Rattle.refit.specs.Window.{size, Whole, cameOf, Brought, Fills, startWindow, advancedBy};
 
 // The bytes buf[from..to]. At the end of the file, or where it can't be read on, no more will come; `left` reads may follow, since a loop
 // must end.
@@ -131,4 +131,31 @@ pub fn fill(fd: i32, buf: &mut [u8], w: Window) -> Window
     }
     let at = move_down(buf, from, to);
     fill_on(fd, buf, at, w.left)
+}
+
+// Nothing has come yet. At most 2^46 reads of a buffer each follow, so that a number of 64 bits counts every byte.
+pub fn start() -> Window
+    ensures { λ r. ⌜ r ≡ startWindow ⌝ }
+{
+    Window {
+        from: 0,
+        to: 0,
+        ended: false,
+        failed: false,
+        left: 70368744177664,
+    }
+}
+
+// The first n bytes are used.
+pub fn advanced(w: Window, n: usize) -> Window
+    requires { ⌜ Whole w × (w .from + n ≤ w .to) ⌝ }
+    ensures { λ r. ⌜ r ≡ advancedBy w n ⌝ }
+{
+    Window {
+        from: w.from + n,
+        to: w.to,
+        ended: w.ended,
+        failed: w.failed,
+        left: w.left,
+    }
 }
