@@ -95,7 +95,7 @@ pub record Judging (b : List ℕ) (w : Window) (off : ℕ) : Type 0 where
   pub came : List ℕ
   pub stop : (x : List ℕ) → reportsOf (came ++ x) .stop ≡ reportsOf (windowOf b w ++ x) .stop
   pub used : (x : List ℕ) → reportsOf (came ++ x) .used ≡ off + reportsOf (windowOf b w ++ x) .used
-  pub room : off + (w .to - w .from) + size * w .left ≤ 9223372036854775808
+  pub room : off + (w .to - w .from) + size * w .left ≤ 4611686018427387904
 
 pub judging-start : (b : List ℕ) (w : Window) → length b ≡ size → w ≡ startWindow → Judging b w 0
 judging-start b w h e = rw e (start b h)
@@ -138,7 +138,7 @@ module _ {b : List ℕ} {w : Window} {off : ℕ} (j : Judging b w off) (v : Verd
     (is : v ≡ verdictOf (reportsOf (windowOf b w) .stop) (reportsOf (windowOf b w) .used) (w .ended) (w .failed))
   where
     -- no more is used than stands there
-    pub judging-in : (n : ℕ) → v ≡ Next.More n → (w .from + n ≤ w .to) × (off + n ≤ 9223372036854775808)
+    pub judging-in : (n : ℕ) → v ≡ Next.More n → (w .from + n ≤ w .to) × (off + n ≤ 4611686018427387904)
     judging-in n e =
         let u = verdict-more (reportsOf (windowOf b w) .stop) (reportsOf (windowOf b w) .used) (w .ended) (w .failed) n (sym is ∙ e) in
         let p = reports-used (windowOf b w) in
@@ -184,7 +184,7 @@ module _ {b : List ℕ} {w : Window} {off : ℕ} (j : Judging b w off) (v : Verd
         let p = verdict-fine (reportsOf (windowOf b w) .stop) (reportsOf (windowOf b w) .used) (w .ended) (w .failed) (sym is ∙ e) in
         wholly (j .came) (stop-all ∙ p .0)
 
-    pub judging-near : (r : Refusal) (n : ℕ) → v ≡ Next.Refused r n → off + n ≤ 9223372036854775808
+    pub judging-near : (r : Refusal) (n : ℕ) → v ≡ Next.Refused r n → off + n ≤ 4611686018427387904
     judging-near r n e =
         let p = verdict-refused (reportsOf (windowOf b w) .stop) (reportsOf (windowOf b w) .used) (w .ended) (w .failed) r n (sym is ∙ e) in
         let u = reports-used (windowOf b w) in

@@ -43,12 +43,16 @@ pub record Fills (stood : List ℕ) (ended : Bool) (reads : ℕ) (b : List ℕ) 
   pub stays : ended ≡ true → (new ≡ []) × (w .ended ≡ true)
   pub ready : w .ended ≡ false → short (windowOf b w) ≡ false
 
--- how many reads of one file there may be: as many buffers hold 2^63 bytes
+-- how many reads of one file there may be: as many buffers hold 2^62 bytes
 abbrev pub mostReads : ℕ
-mostReads = 70368744177664
+mostReads = 35184372088832
 
 abbrev pub startWindow : Window
 startWindow = record { from = 0; to = 0; ended = false; failed = false; left = mostReads }
 
 abbrev pub advancedBy : Window → ℕ → Window
 advancedBy w n = record { from = w .from + n; to = w .to; ended = w .ended; failed = w .failed; left = w .left }
+
+-- 64 bits hold the number of every report that is still to come: each has a byte of its own
+abbrev pub Counted : ℕ → Window → Type 0
+Counted n w = n + (w .to - w .from) + size * w .left ≤ 9223372036854775809

@@ -133,7 +133,7 @@ pub fn fill(fd: i32, buf: &mut [u8], w: Window) -> Window
     fill_on(fd, buf, at, w.left)
 }
 
-// Nothing has come yet. At most 2^46 reads of a buffer each follow, so that a number of 64 bits counts every byte.
+// Nothing has come yet. At most 2^45 reads of a buffer each follow, so that a number of 64 bits counts every byte.
 pub fn start() -> Window
     ensures { λ r. ⌜ r ≡ startWindow ⌝ }
 {
@@ -142,7 +142,7 @@ pub fn start() -> Window
         to: 0,
         ended: false,
         failed: false,
-        left: 70368744177664,
+        left: 35184372088832,
     }
 }
 
