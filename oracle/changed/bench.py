@@ -7,6 +7,7 @@
 Best of five; the clock is the processor's own (user and system), so that other work on the machine matters less.
 """
 import os
+import subprocess
 import sys
 import tempfile
 
@@ -17,17 +18,14 @@ ROOT = os.path.join(os.path.dirname(os.path.abspath(__file__)), '..', '..')
 PROGRAM = os.environ.get('CHANGED', os.path.join(ROOT, 'target', 'native', 'changed'))
 
 
-def run(old, new):
-    pid = os.fork()
-    if pid == 0:
-        os.dup2(os.open(os.devnull, os.O_WRONLY), 1)
-        os.execv(PROGRAM, [PROGRAM, old, new])
-    _, status, used = os.wait4(pid, 0)
-    assert status == 0
-    return used.ru_utime + used.ru_stime, used.ru_maxrss
+def run(peak, old, new):
+    said = subprocess.run([peak, PROGRAM, old, new], stdout=subprocess.DEVNULL, stderr=subprocess.PIPE, check=True).stderr.split()
+    return float(said[0]), int(said[1])
 
 
 with tempfile.TemporaryDirectory() as work:
+    peak = os.path.join(work, 'peak')
+    subprocess.run(['cc', '-O1', os.path.join(os.path.dirname(os.path.abspath(__file__)), 'peak.c'), '-o', peak], check=True)
     print('| files | MB/s | peak memory, KiB |')
     print('|---|---|---|')
     for megabytes in (10, 100):
@@ -46,6 +44,6 @@ with tempfile.TemporaryDirectory() as work:
                     for _ in range(size // len(part)):
                         file.write(part)
             total = sum(os.path.getsize(path) for path in paths)
-            runs = [run(*paths) for _ in range(5)]
+            runs = [run(peak, *paths) for _ in range(5)]
             best = min(seconds for seconds, _ in runs)
             print(f'| two of {megabytes} MB, {name} | {total / best / 1e6:.0f} | {max(memory for _, memory in runs)} |')
