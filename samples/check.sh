@@ -1,6 +1,6 @@
 #!/bin/sh
-# Runs ./relate on each sample plan, on each example of docs/REFUSALS.md and on words that it doesn't take, and
-# compares what it prints and says.
+# Runs ./relate on each sample plan, on each example of docs/REFUSALS.md and on words that it doesn't take, then ./changed
+# on two files and such words, and compares what they print and say.
 set -eu
 cd "$(dirname "$0")/.."
 work=$(mktemp -d)
@@ -50,6 +50,24 @@ for words in --nothing -h samples 'samples/same.plan samples/same.plan' samples/
 done
 ./relate --help >"$work/out"
 [ "$(wc -l <"$work/out")" -le 24 ] || wrong "the help is longer than a screen"
+
+# ./changed: the example of README.md, a refusal in words, and words that it doesn't take
+pair=crates/changed/data
+if ./changed $pair/two.reports $pair/three.reports | cmp - crates/changed/stdout; then echo "ok ./changed"; else wrong ./changed; fi
+./changed $pair/two.reports $pair/none.reports >"$work/out" 2>"$work/said"
+if [ "$(cat "$work/out")" = 'refused new 23 at 0' ] && [ "$(wc -l <"$work/said")" -eq 1 ]; then
+    echo "ok $(cat "$work/said")"
+else
+    wrong "./changed of a missing file"
+fi
+for words in --nothing '' $pair/two.reports "$pair/two.reports $pair/two.reports $pair/two.reports"; do
+    status=0
+    # shellcheck disable=SC2086
+    ./changed $words >"$work/out" 2>"$work/said" || status=$?
+    if [ "$status" -ne 2 ] || [ -s "$work/out" ] || [ "$(wc -l <"$work/said")" -ne 1 ]; then wrong "./changed $words"; fi
+done
+./changed --help >"$work/out"
+[ "$(wc -l <"$work/out")" -le 30 ] || wrong "the help of ./changed is longer than a screen"
 
 [ "$failed" -eq 0 ] && echo "all samples are as they should be"
 exit "$failed"

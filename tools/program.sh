@@ -37,7 +37,7 @@ rm -f "$native" "$native.beside"
 compile_here "$object" "$work/$name.o"
 mark "$native.built"
 command -v cc >/dev/null || { echo "program.sh: no cc on PATH: ${native#"$root"/} isn't linked" >&2; exit 3; }
-cc "$work/$name.o" "$root/tools/errno.c" -o "$work/$name" 2>"$root/target/log/$name.cc" || {
+cc "$work/$name.o" "$root/tools/os.c" -o "$work/$name" 2>"$root/target/log/$name.cc" || {
     echo "program.sh: ${native#"$root"/} could not be linked: target/log/$name.cc says why" >&2
     exit 3
 }

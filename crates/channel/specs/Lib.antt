@@ -1,0 +1,3 @@
+-- What a reader of this crate must believe.
+pub mod Decimal
+pub mod Reading

@@ -1,0 +1,3 @@
+// What the programs are made of: one read of an open file, and words and numbers written behind one another.
+pub mod lines;
+pub mod reading;
