@@ -1,0 +1,8 @@
+-- Request R-12's theorems.
+pub mod LawsStarEnds
+pub mod LawsBlocks
+pub mod LawsEnds
+pub mod LawsPoured
+pub mod LawsRecords
+pub mod LawsSwapped
+pub mod LawsExchangeStar
