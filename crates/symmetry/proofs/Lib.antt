@@ -6,3 +6,5 @@ pub mod LawsPoured
 pub mod LawsRecords
 pub mod LawsSwapped
 pub mod LawsExchangeStar
+pub mod LawsExchangeBytes
+pub mod LawsExchange
