@@ -315,14 +315,14 @@ edge-other s half whole =
     mapped-check otherSaid (not (eqb (promised (otherEdge s)) 9)) (not (eqb (promised s) 9)) Length _ _ (rw half refl) (λ a.
     let e : promised s ≡ 9 = eqb-true _ _ (not-false (eqb (promised s) 9) a) in
     let l = label-by s (otherEdge s) 4 (swap-before 5 3 s 4 (omega arith) (omega arith))
-        (sides-by s (otherEdge s) 5 8
-        (swap-first 5 3 s (omega arith) 5 8 (omega arith) (omega arith) (omega arith))
-        (swap-first 5 3 s (omega arith) 6 9 (omega arith) (omega arith) (omega arith))
-        (swap-first 5 3 s (omega arith) 7 10 (omega arith) (omega arith) (omega arith)))
-        (sides-by s (otherEdge s) 8 5
-        (swap-second 5 3 s (omega arith) 8 5 (omega arith) (omega arith) (omega arith))
-        (swap-second 5 3 s (omega arith) 9 6 (omega arith) (omega arith) (omega arith))
-        (swap-second 5 3 s (omega arith) 10 7 (omega arith) (omega arith) (omega arith))) in
+    (sides-by s (otherEdge s) 5 8
+    (swap-first 5 3 s (omega arith) 5 8 (omega arith) (omega arith) (omega arith))
+    (swap-first 5 3 s (omega arith) 6 9 (omega arith) (omega arith) (omega arith))
+    (swap-first 5 3 s (omega arith) 7 10 (omega arith) (omega arith) (omega arith)))
+    (sides-by s (otherEdge s) 8 5
+    (swap-second 5 3 s (omega arith) 8 5 (omega arith) (omega arith) (omega arith))
+    (swap-second 5 3 s (omega arith) 9 6 (omega arith) (omega arith) (omega arith))
+    (swap-second 5 3 s (omega arith) 10 7 (omega arith) (omega arith) (omega arith))) in
     rw l (edge-read (labelAt s 4)))
 
 -- a record: the checks before the kind answer alike

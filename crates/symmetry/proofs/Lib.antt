@@ -8,3 +8,6 @@ pub mod LawsSwapped
 pub mod LawsExchangeStar
 pub mod LawsExchangeBytes
 pub mod LawsExchange
+pub mod LawsPredicates
+pub mod LawsPatterns
+pub mod LawsVerdicts
