@@ -174,7 +174,11 @@ none-left [] e = refl
 none-left (x ∷ xs) e = absurd (omega arith)
 
 module _ (ns s : List ℕ) (u : ℕ) (accepted : recordOf ns s .answer ≡ Used u) (cs : List (List ℕ)) (order : List·Permᴰ (endsOf s) cs) where
-  node-reordered : eqb (byteAt s 3) 1 ≡ true → recordOf ns (withEnds s cs) ≡ recordOf ns s
+  -- bytes that say the same, as many of them
+  abbrev Same : List ℕ → Type 0
+  Same t = (recordOf ns t ≡ recordOf ns s) × (length s ≡ length t)
+
+  node-reordered : eqb (byteAt s 3) 1 ≡ true → Same (withEnds s cs)
   unfolding recordOf
   node-reordered e =
       let x = says ns s u (recordOf ns s .cells) (rw (← accepted) refl) in
@@ -187,19 +191,26 @@ module _ (ns s : List ℕ) (u : ℕ) (accepted : recordOf ns s .answer ≡ Used 
       let long : endsAt s + 15 * k ≤ length s = omega (arith, h .long, w .whole) in
       let z = reordered k (endsAt s) s cs long o (h .body .ends) (drop (endsAt s + 15 * k) s) (h .body .ends-are) in
       let t = take (endsAt s) s ++ (flat cs ++ drop (endsAt s + 15 * k) s) in
+      let sized = same-length k (endsAt s) s cs long o in
       let kept : recordOf ns t ≡ pouredBy ns (2 + promised s) (good (x .said)) =
-      record-kept ns s t (x .said) (x .is) kind h (same-length k (endsAt s) s cs long o)
-      (same-front k (endsAt s) s cs long o (flat cs ++ drop (endsAt s + 15 * k) s)) (z .ends) (z .read) (z .joined) in
-      rw c (kept ∙ ap (pouredBy ns (2 + promised s)) (sym (x .is)))
+      record-kept ns s t (x .said) (x .is) kind h sized (same-front k (endsAt s) s cs long o (flat cs ++ drop (endsAt s + 15 * k) s))
+      (z .ends) (z .read) (z .joined) in
+      (rw c (kept ∙ ap (pouredBy ns (2 + promised s)) (sym (x .is))), rw c sized)
 
-  edge-reordered : eqb (byteAt s 3) 1 ≡ false → recordOf ns (withEnds s cs) ≡ recordOf ns s
+  edge-reordered : eqb (byteAt s 3) 1 ≡ false → Same (withEnds s cs)
   unfolding flat
   edge-reordered e =
       let c : endCount s ≡ 0 = rw e refl in
       let empty : cs ≡ [] = none-left cs (sym (perm-length order) ∙ blocks-count (endCount s) (drop (endsAt s) s) ∙ c) in
       let z : endsAt s + 15 * 0 ≡ endsAt s = omega arith in
-      rw (empty, c, z, take-append-drop (endsAt s) s) refl
+      rw (empty, c, z, take-append-drop (endsAt s) s) (refl, refl)
+
+  both-same : Same (withEnds s cs)
+  both-same = told (eqb (byteAt s 3) 1) node-reordered edge-reordered
 
   -- the ends of an accepted record, of either version, in any other order: accepted, with the same bytes used and the same nine cells
   pub ends-reordered : recordOf ns (withEnds s cs) ≡ recordOf ns s
-  ends-reordered = told (eqb (byteAt s 3) 1) node-reordered edge-reordered
+  ends-reordered = both-same .0
+
+  pub ends-long : length s ≡ length (withEnds s cs)
+  ends-long = both-same .1

@@ -38,6 +38,10 @@ good-flipped p g =
 pub fine-flipped : (p : List ℕ) → checkOf p ≡ C.Fine → checkOf (flipped p) ≡ C.Fine
 fine-flipped p e = good-fine (flipped p) (good-flipped p (fine-good p e))
 
+-- so nine letters are good exactly when they are transposed
+pub fine-back : (p : List ℕ) → length p ≡ 9 → checkOf (flipped p) ≡ C.Fine → checkOf p ≡ C.Fine
+fine-back p h e = ap checkOf (sym (flipped-twice p h)) ∙ fine-flipped (flipped p) e
+
 module _ (m : Matrix) (p : List ℕ) where
   abbrev letter : ℕ → CoordPos → CoordPos → Bool
   letter k a b = agreeLetter (letterOf (getD p k 0)) (numberAt m a b)

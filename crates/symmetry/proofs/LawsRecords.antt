@@ -24,6 +24,8 @@ use Rattle.plan.proofs.LawsFloor.{floor-empty, floor-refused, floor-accepted, f
 use Rattle.plan.proofs.LawsSaid.{says, same-answer}
 use Rattle.traced.specs.Made.{afterAll}
 use Rattle.symmetry.specs.Runs.{flat, cut, recordsOf}
+use Rattle.symmetry.specs.Ends.{withEnds, Reordered, no-record, a-record}
+use Rattle.symmetry.proofs.LawsEnds.{ends-reordered, ends-long}
 use Rattle.symmetry.proofs.LawsPoured.{said-poured, poured-swap}
 
 -- an accepted record with no byte after it
@@ -135,3 +137,24 @@ pub records-reordered : (ns s : List ℕ) (qs : List (List ℕ)) → floorOf ns 
 records-reordered ns s qs e p =
     let r = run-cut ns s e in
     floor-flat ns qs (all-perm p (r .0)) ∙ rw (← after-perm p (r .0) ns, ← flat-perm p, ← perm-length p) refl ∙ sym (r .1)
+
+-- a run whose records have their ends in another order
+flat-ends : {rs qs : List (List ℕ)} (ns : List ℕ) → All Own rs → Reordered rs qs → floorOf ns (flat qs) ≡ floorOf ns (flat rs)
+unfolding flat
+flat-ends ns none no-record = refl
+flat-ends ns (more o os) (a-record {r = r} {rs = rs} {qs = qs} bs p t) =
+    let a : recordOf ns r .answer ≡ A.Used (length r) = ap (λ (x : BytesAnswer). x .answer) (own-answer r o ns) in
+    let kept = ends-reordered ns r (length r) a bs p in
+    let long = ends-long ns r (length r) a bs p in
+    let b : recordOf ns (withEnds r bs) .answer ≡ A.Used (length (withEnds r bs)) =
+    ap (λ (x : BytesAnswer). x .answer) kept ∙ a ∙ ap A.Used long in
+    floor-then ns (withEnds r bs) (flat qs) b ∙ ap (λ (n : ℕ). behind n 1 (floorOf (recordOf ns (withEnds r bs) .cells) (flat qs))) (sym long)
+    ∙ ap (λ (x : BytesAnswer). behind (length r) 1 (floorOf (x .cells) (flat qs))) kept ∙
+    ap (behind (length r) 1) (flat-ends (recordOf ns r .cells) os t) ∙ sym (floor-then ns r (flat rs) a)
+
+-- the ends of any of its nodes in any other order: accepted, as many bytes, as many records, the same nine cells
+pub run-ends-reordered : (ns s : List ℕ) (qs : List (List ℕ)) → floorOf ns s .stop ≡ Fine → Reordered (recordsOf s) qs
+    → floorOf ns (flat qs) ≡ floorOf ns s
+unfolding recordsOf
+run-ends-reordered ns s qs e t =
+    flat-ends ns (own-cut (length s) ns s (omega arith) e) t ∙ ap (floorOf ns) (flat-cut (length s) s (omega arith))

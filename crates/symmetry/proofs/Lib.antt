@@ -11,3 +11,4 @@ pub mod LawsExchange
 pub mod LawsPredicates
 pub mod LawsPatterns
 pub mod LawsVerdicts
+pub mod Examples

@@ -2,7 +2,7 @@
 -- other blocks in their place. An isolated edge has none.
 use Prim.Native.Nat.{ℕ, zero, suc, _+_, _*_}
 use mathlib.Core.Bool.{cond}
-use mathlib.Core.List.{List, [], _∷_, _++_}
+use mathlib.Core.List.{List, [], _∷_, _++_, List·Permᴰ}
 use lib.Dec.{eqb}
 use lib.ListN.{take, drop}
 use Rattle.frame.specs.Words.{byteAt}
@@ -30,3 +30,9 @@ endsOf s = blocks (endCount s) (drop (endsAt s) s)
 -- what stands before the ends, other ends, what stands behind them
 abbrev pub withEnds : List ℕ → List (List ℕ) → List ℕ
 withEnds s bs = take (endsAt s) s ++ (flat bs ++ drop (endsAt s + 15 * endCount s) s)
+
+-- records in their order, each with its ends in another order
+pub data Reordered : List (List ℕ) → List (List ℕ) → Type 0 where
+  no-record : Reordered [] []
+  a-record : {r : List ℕ} {rs qs : List (List ℕ)} (bs : List (List ℕ)) → List·Permᴰ (endsOf r) bs → Reordered rs qs
+      → Reordered (r ∷ rs) (withEnds r bs ∷ qs)
