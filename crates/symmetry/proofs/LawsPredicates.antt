@@ -191,24 +191,24 @@ not-both a b k f = by (eqb a k) refl
     by false e = rw e refl
 
 -- crosses and overlaps by a, b and II: overlaps wants a = b, and where both are 1 it wants II = 1, where crosses wants 0
-numbers-exclude : (a b n : ℕ) (p q r s : Bool)
-    → ((ltb a b && p || ltb b a && q || eqb a 2 && eqb b 2 && eqb n 1) &&
-    (eqb a 2 && eqb b 2 && (eqb n 2 && r) || (eqb a 1 && eqb b 1 || eqb a 3 && eqb b 3) && s)) ≡ false
+abbrev crossing-by : ℕ → ℕ → ℕ → Bool → Bool → Bool
+crossing-by a b n p q = ltb a b && p || ltb b a && q || eqb a 2 && eqb b 2 && eqb n 1
+
+abbrev overlapping-by : ℕ → ℕ → ℕ → Bool → Bool → Bool
+overlapping-by a b n r s = eqb a 2 && eqb b 2 && (eqb n 2 && r) || (eqb a 1 && eqb b 1 || eqb a 3 && eqb b 3) && s
+
+numbers-exclude : (a b n : ℕ) (p q r s : Bool) → (crossing-by a b n p q && overlapping-by a b n r s) ≡ false
 numbers-exclude a b n p q r s = by (eqb a b) refl
   where
     inside : (t : Bool) → eqb n 1 ≡ t → (eqb n 1 && (eqb n 2 && r || false)) ≡ false
     inside true e = let z : n ≡ 1 = eqb-true n 1 e in rw z refl
     inside false e = rw e refl
 
-    dimension : (t : Bool) → eqb a 2 ≡ t
-        → ((ltb a a && p || ltb a a && q || eqb a 2 && eqb a 2 && eqb n 1) &&
-        (eqb a 2 && eqb a 2 && (eqb n 2 && r) || (eqb a 1 && eqb a 1 || eqb a 3 && eqb a 3) && s)) ≡ false
+    dimension : (t : Bool) → eqb a 2 ≡ t → (crossing-by a a n p q && overlapping-by a a n r s) ≡ false
     dimension true e = let z : a ≡ 2 = eqb-true a 2 e in rw z (inside (eqb n 1) refl)
     dimension false e = rw (le-ltb a a (omega arith), e) refl
 
-    by : (t : Bool) → eqb a b ≡ t
-        → ((ltb a b && p || ltb b a && q || eqb a 2 && eqb b 2 && eqb n 1) &&
-        (eqb a 2 && eqb b 2 && (eqb n 2 && r) || (eqb a 1 && eqb b 1 || eqb a 3 && eqb b 3) && s)) ≡ false
+    by : (t : Bool) → eqb a b ≡ t → (crossing-by a b n p q && overlapping-by a b n r s) ≡ false
     by true e = let z : b ≡ a = sym (eqb-true a b e) in rw z (dimension (eqb a 2) refl)
     by false e =
         let f = eqb-false a b e in
@@ -218,6 +218,6 @@ module _ (m : Matrix) where
   pub never-crosses-and-overlaps : (holds Crosses m && holds Overlaps m) ≡ false
   unfolding holds agreeAll letterOf
   never-crosses-and-overlaps =
-      numbers-exclude (firstDim m) (secondDim m) (numberAt m I I)
-      (not (isF m I I) && (not (isF m I E) && true)) (not (isF m I I) && (not (isF m E I) && true))
-      (not (isF m I E) && (not (isF m E I) && true)) (not (isF m I I) && (not (isF m I E) && (not (isF m E I) && true)))
+      numbers-exclude (firstDim m) (secondDim m) (numberAt m I I) (not (isF m I I) && (not (isF m I E) && true))
+      (not (isF m I I) && (not (isF m E I) && true)) (not (isF m I E) && (not (isF m E I) && true))
+      (not (isF m I I) && (not (isF m I E) && (not (isF m E I) && true)))

@@ -12,3 +12,4 @@ pub mod LawsPredicates
 pub mod LawsPatterns
 pub mod LawsVerdicts
 pub mod Examples
+pub mod AllHold
