@@ -1,11 +1,10 @@
 -- What doesn't hold, each by a smallest input: the number of a refused record when its ends are reordered, request R-7's numbers when the
 -- records are, a matrix when the plan is turned, and a partner of contains_properly. Assumes nothing.
 use Prim.Native.Nat.{ℕ}
-use mathlib.Core.Path.{_≡_, refl, sym, _∙_}
+use mathlib.Core.Path.{_≡_, refl, sym}
 use mathlib.Core.Bool.{true, false}
 use mathlib.Core.List.{List, [], _∷_, _++_}
 use Rattle.de9im.specs.declared.answer.Answer.the-variants.{Refused}
-use Rattle.de9im.specs.declared.answer.Checked.the-variants.{Fine}
 use Rattle.de9im.specs.declared.refusal.Refusal.the-variants.{Direction, LabelKind}
 use Rattle.de9im.specs.Cells.{cellsOf, matrixOf}
 use Rattle.de9im.specs.Letters.{letterOf}
@@ -37,7 +36,7 @@ use Rattle.star.specs.Pouring.{pourNode, pourLabel, pourLabels}
 use Rattle.plan.specs.EndBytes.{dirAt, endAt, readEnds}
 use Rattle.plan.specs.LabelBytes.{sidesAt, labelAt}
 use Rattle.plan.specs.Record.{recordOf}
-use Rattle.plan.specs.Said.{formOf, edgeOf, nodeAt, nodeBody, nodeOf, saidOf}
+use Rattle.plan.specs.Said.{formOf, nodeAt, nodeBody, nodeOf, saidOf}
 use Rattle.traced.specs.Floor.{fedIn, floorIn}
 use Rattle.traced.specs.Made.{startingAt}
 use Rattle.traced.specs.Record.{recordIn}
@@ -102,13 +101,15 @@ south = 0 ∷ 0 ∷ 0 ∷ 0 ∷ 255 ∷ 255 ∷ 255 ∷ 255 ∷ []
 pub not-turned : recordOf (cellsOf startMatrix) (starHead ++ (east ++ leftInside) ++ south ++ leftOutside) .cells
     ≡ 0 ∷ 0 ∷ 0 ∷ 1 ∷ 0 ∷ 0 ∷ 3 ∷ 2 ∷ 3 ∷ []
 unfolding recordOf saidOf nodeOf nodeBody nodeAt readEnds endAt dirAt labelAt sidesAt formOf pouredStar completedStar missingLeft any
-    walkOf walkFrom startOf filledOf dirsFrom insertDir orderOf keep count joinOf onJoined sideJoined halfJoined pourNode pourLabel pourLabels
+    walkOf walkFrom startOf filledOf dirsFrom insertDir orderOf keep count joinOf onJoined sideJoined halfJoined
+    pourNode pourLabel pourLabels
 not-turned = refl
 
 pub turned : recordOf (cellsOf startMatrix) (starHead ++ (north ++ leftInside) ++ east ++ leftOutside) .cells
     ≡ 3 ∷ 2 ∷ 0 ∷ 1 ∷ 0 ∷ 0 ∷ 0 ∷ 0 ∷ 3 ∷ []
 unfolding recordOf saidOf nodeOf nodeBody nodeAt readEnds endAt dirAt labelAt sidesAt formOf pouredStar completedStar missingLeft any
-    walkOf walkFrom startOf filledOf dirsFrom insertDir orderOf keep count joinOf onJoined sideJoined halfJoined pourNode pourLabel pourLabels
+    walkOf walkFrom startOf filledOf dirsFrom insertDir orderOf keep count joinOf onJoined sideJoined halfJoined
+    pourNode pourLabel pourLabels
 turned = refl
 
 -- a room in a room, walls touching: contains, and not properly; of the transposed matrix within, coveredby and intersects say yes

@@ -1,13 +1,12 @@
 -- Ends read from blocks of fifteen bytes that stand in a row: in another order, the same ends in that order. Assumes nothing.
-use Prim.Native.Nat.{ℕ, zero, suc, _+_, _*_, _≤_, _<_}
+use Prim.Native.Nat.{ℕ, zero, suc, _+_, _*_, _≤_}
 use mathlib.Core.Path.{_≡_, refl, sym, ap, subst, _∙_}
-use mathlib.Core.Bool.{Bool, true, false, cond, _||_}
+use mathlib.Core.Bool.{false, _||_}
 use mathlib.Core.List.{List, [], _∷_, _++_, append-assoc, List·Permᴰ, List·Permᴰ·nil, List·Permᴰ·cons, List·Permᴰ·swap, List·Permᴰ·trans}
 use native.Mathlib.Omega.{arith}
 use lib.ListN.{length, take, drop, length-append, length-drop, take-append-drop, List·getD-append}
 use lib.Seq.{getD-append-add, getD-drop, length-take-le, drop-drop}
 use Rattle.de9im.specs.declared.refusal.Refusal.the-variants.{Direction}
-use Rattle.de9im.proofs.LawsApart.{impossible}
 use Rattle.de9im.proofs.LawsBool.{neither}
 use Rattle.ends.specs.declared.label.Label.{Label}
 use Rattle.ends.specs.declared.«edge_end».Dir.{Dir}
@@ -16,7 +15,6 @@ use Rattle.ends.specs.Direction.{zeroDir}
 use Rattle.ends.specs.Ends.{badDir, far}
 use Rattle.ends.specs.Every.{All, none, more, GoodEnd}
 use Rattle.frame.specs.Read.{Read, good, bad, _>>=_}
-use Rattle.frame.specs.Words.{byteAt}
 use Rattle.frame.proofs.LawsRead.{bad-good, passed}
 use Rattle.plan.specs.EndBytes.{dirAt, endAt, readEnds}
 use Rattle.plan.specs.EndBytes.{Ends as ReadEnds}
@@ -95,7 +93,11 @@ pub reread : {bs cs : List (List ℕ)} {es : List EdgeEnd} → List·Permᴰ bs 
 reread List·Permᴰ·nil no-block = record { ends = []; reads = no-block; order = List·Permᴰ·nil }
 reread (List·Permᴰ·cons x p) (block {e = e} q r) =
     let t = reread p r in
-    record { ends = e ∷ t .ends; reads = block (ap (λ (b : List ℕ). endAt b 0) (sym x) ∙ q) (t .reads); order = List·Permᴰ·cons refl (t .order) }
+    record {
+      ends = e ∷ t .ends;
+      reads = block (ap (λ (b : List ℕ). endAt b 0) (sym x) ∙ q) (t .reads);
+      order = List·Permᴰ·cons refl (t .order);
+    }
 reread (List·Permᴰ·swap x y) (block {e = e} q (block {e = f} {es = es} p r)) =
     record {
       ends = f ∷ e ∷ es;
@@ -108,7 +110,8 @@ reread (List·Permᴰ·trans p s) r =
     record { ends = v .ends; reads = v .reads; order = List·Permᴰ·trans (u .order) (v .order) }
 
 -- an end that is read has a direction
-label-good : (d : Dir) (l : Read Label) (e : EdgeEnd) → zeroDir d ≡ false → (l >>= λ k. good (record { dir = d; label = k })) ≡ good e → GoodEnd e
+label-good : (d : Dir) (l : Read Label) (e : EdgeEnd) → zeroDir d ≡ false
+    → (l >>= λ k. good (record { dir = d; label = k })) ≡ good e → GoodEnd e
 label-good d (bad r) e z q = bad-good q
 label-good d (good l) e z q =
     let f : record { dir = d; label = l } ≡ e = cc in

@@ -1,13 +1,13 @@
 -- Request R-12: "For accepted records, reordering the ends of a node .. gives the same nine cells". Assumes nothing.
-use Prim.Native.Nat.{ℕ, zero, suc, _+_, _*_, _≤_, _<_}
+use Prim.Native.Nat.{ℕ, _+_, _*_, _≤_}
 use mathlib.Core.Path.{_≡_, refl, sym, ap, _∙_}
-use mathlib.Core.Bool.{Bool, true, false, cond, not}
+use mathlib.Core.Bool.{true, false, not}
 use mathlib.Core.List.{List, [], _∷_, _++_, List·Permᴰ}
 use native.Mathlib.Omega.{arith}
-use borrow.Author.Tests.{ltb-false, eqb-true, eqb-false, not-false}
+use borrow.Author.Tests.{ltb-false, eqb-true, not-false}
 use lib.Dec.{eqb, ltb}
 use lib.ListN.{length, take, drop, length-append, length-drop, take-append-drop, List·getD-append}
-use lib.Seq.{getD-take, length-take-le, drop-at, drop-drop}
+use lib.Seq.{getD-take, length-take-le, drop-at}
 use Rattle.de9im.specs.declared.answer.Answer.the-variants.{Used}
 use Rattle.de9im.specs.declared.answer.CellsAnswer.{CellsAnswer}
 use Rattle.de9im.specs.declared.refusal.Refusal.the-variants.{Length, Ends, MissingLeft}
@@ -26,8 +26,8 @@ use Rattle.frame.proofs.LawsRead.{bad-good, passed}
 use Rattle.plan.specs.EndBytes.{readEnds}
 use Rattle.plan.specs.EndBytes.{Ends as ReadEnds}
 use Rattle.plan.specs.Record.{pouredBy, recordOf}
-use Rattle.plan.specs.Said.{Form, Said, node, formOf, nodeAt, withEnds as saidWith, nodeBody, nodeOf, saidOf}
-use Rattle.plan.proofs.LawsForm.{Fits, form-fits}
+use Rattle.plan.specs.Said.{Form, Said, node, nodeAt, withEnds as saidWith, nodeBody, nodeOf, saidOf}
+use Rattle.plan.proofs.LawsForm.{form-fits}
 use Rattle.plan.proofs.LawsMoved.{node-same}
 use Rattle.plan.proofs.LawsRecordOrder.{a-node, node-body}
 use Rattle.plan.proofs.LawsSaid.{says, is-whole}
@@ -101,7 +101,8 @@ module _ (ns s t : List ℕ) (said : Said) (is : saidOf s ≡ good said) (kind :
         sym (node-same s t (same 4 (omega arith)) (same 5 (omega arith)) (same 6 (omega arith)) (same 7 (omega arith))) ∙ b .node-is in
         let l : missingLeft (joinedOf es) ≡ false = rw (← joined) (b .lefts) in
         rw (p, ends, l)
-        (ap (λ (x : CellsAnswer). record { answer = Used (2 + promised s); cells = x .cells }) (star-same ns (b .place) es (b .ends) (sym joined))
+        (ap (λ (x : CellsAnswer). record { answer = Used (2 + promised s); cells = x .cells })
+        (star-same ns (b .place) es (b .ends) (sym joined))
         ∙ ap (λ (x : Said). pouredBy ns (2 + promised s) (good x)) (b .says-so))
 
     record-kept : joinedOf (h .body .ends) ≡ joinedOf es → recordOf ns t ≡ pouredBy ns (2 + promised s) (good said)

@@ -1,6 +1,6 @@
 -- Request R-12: "Exchanging A and B in every record, from a transposed start, gives the transposed matrix", of any bytes: accepted exactly
 -- when the other is, refused by the same number at the same offset, and the transposed nine numbers. Assumes nothing.
-use Prim.Native.Nat.{ℕ, zero, suc, _+_, _*_, _≤_, _<_, min, max}
+use Prim.Native.Nat.{ℕ, zero, suc, _+_, _*_, _≤_, _<_}
 use mathlib.Core.Path.{_≡_, refl, sym, ap, _∙_}
 use mathlib.Core.Bool.{Bool, true, false}
 use mathlib.Core.List.{List, [], _∷_, _++_, map, append-nil}
@@ -12,15 +12,14 @@ use lib.Seq.{take-all, length-take-le, getD-take, drop-at}
 use Rattle.de9im.specs.declared.answer.Answer.{Answer}
 use Rattle.de9im.specs.declared.answer.Answer.the-variants as A
 use Rattle.de9im.specs.declared.answer.BytesAnswer.{BytesAnswer}
-use Rattle.de9im.specs.declared.answer.Checked.the-variants.{Fine, Refused}
+use Rattle.de9im.specs.declared.answer.Checked.the-variants.{Refused}
 use Rattle.de9im.specs.Cells.{cellsOf, matrixOf}
 use Rattle.de9im.specs.Matrix.{Matrix, transposedOf, startMatrix}
 use Rattle.star.proofs.LawsPouring.{numberIn}
 use Rattle.frame.specs.Read.{Read, good, bad}
 use Rattle.frame.specs.Words.{promised}
-use Rattle.plan.specs.declared.floor.FloorAnswer.{FloorAnswer}
-use Rattle.plan.specs.Floor.{stoppedAs, behind, floorOf}
-use Rattle.plan.specs.Record.{pourSaid, pouredBy, recordOf}
+use Rattle.plan.specs.Floor.{behind, floorOf}
+use Rattle.plan.specs.Record.{pouredBy, recordOf}
 use Rattle.plan.specs.Said.{Said, saidOf}
 use Rattle.plan.proofs.LawsAfter.{spent, later-bytes, cut-out}
 use Rattle.plan.proofs.LawsFloor.{floor-empty, floor-refused, floor-accepted}
@@ -29,7 +28,7 @@ use Rattle.symmetry.specs.Runs.{flat, cut, recordsOf}
 use Rattle.symmetry.specs.Exchange.{otherRecord, otherRun, flipped, flippedFloor}
 use Rattle.symmetry.proofs.LawsExchangeBytes.{mapped, record-said, record-promised, record-length}
 use Rattle.symmetry.proofs.LawsExchangeStar.{otherSaid, said-into-other}
-use Rattle.symmetry.proofs.LawsPoured.{same-cells, Poured, said-poured, saidInto}
+use Rattle.symmetry.proofs.LawsPoured.{same-cells, Poured, said-poured}
 
 -- columns for rows
 three-cases : (P : ℕ → Type 0) → P 0 → P 1 → P 2 → (i : ℕ) → i < 3 → P i
@@ -160,7 +159,8 @@ module _ (k : ℕ) (ns s : List ℕ) where
       ap (λ (n : ℕ). flippedFloor (behind u 1 (floorOf (recordOf ns s .cells) (drop n s)))) (sym (p .used)) ∙
       sym (ap flippedFloor (floor-accepted ns s u e))
 
-cut-exchanged : (k : ℕ) (ns s : List ℕ) → length s ≤ k → floorOf (flipped ns) (flat (map otherRecord (cut k s))) ≡ flippedFloor (floorOf ns s)
+cut-exchanged : (k : ℕ) (ns s : List ℕ) → length s ≤ k
+    → floorOf (flipped ns) (flat (map otherRecord (cut k s))) ≡ flippedFloor (floorOf ns s)
 unfolding cut flat
 cut-exchanged zero ns [] h = floor-empty (flipped ns) ∙ sym (ap flippedFloor (floor-empty ns))
 cut-exchanged zero ns (b ∷ s) h = absurd (omega arith)

@@ -1,8 +1,8 @@
 -- What a record says when A and B are exchanged in its bytes: the same with A and B exchanged, or the same refusal. Assumes nothing.
 use Prim.Native.Nat.{ℕ, zero, suc, _+_, _*_, _≤_, _<_}
 use mathlib.Core.Path.{_≡_, refl, sym, ap, _∙_}
-use mathlib.Core.Bool.{Bool, true, false, cond, not, _&&_, _||_, and-comm, or-comm}
-use mathlib.Core.List.{List, [], _∷_, map}
+use mathlib.Core.Bool.{Bool, true, false, cond, not, _||_, and-comm, or-comm}
+use mathlib.Core.List.{List, _∷_, map}
 use native.Mathlib.Omega.{arith}
 use borrow.Author.Tests.{ltb-false, eqb-true, not-false}
 use lib.Dec.{eqb, ltb}
@@ -11,8 +11,17 @@ use Rattle.de9im.specs.declared.«coordinate_position».Coded.{Coded}
 use Rattle.de9im.specs.declared.«coordinate_position».Coded.the-variants as C
 use Rattle.de9im.specs.Position.{codedOf}
 use Rattle.de9im.specs.declared.refusal.Refusal.{Refusal}
-use Rattle.de9im.specs.declared.refusal.Refusal.the-variants.{Short, Version, Kind, Length, Ends, Direction, LabelKind, PositionCode, MissingLeft}
-use Rattle.de9im.proofs.LawsBool.{told}
+use Rattle.de9im.specs.declared.refusal.Refusal.the-variants.{
+  Short,
+  Version,
+  Kind,
+  Length,
+  Ends,
+  Direction,
+  LabelKind,
+  PositionCode,
+  MissingLeft,
+}
 use Rattle.ends.specs.declared.label.Label.{Label}
 use Rattle.ends.specs.declared.«edge_end».Dir.{Dir}
 use Rattle.ends.specs.declared.«edge_end».EdgeEnd.{EdgeEnd}
@@ -27,8 +36,8 @@ use Rattle.frame.specs.Words.{byteAt, promised}
 use Rattle.frame.proofs.LawsRead.{bad-good}
 use Rattle.plan.specs.EndBytes.{dirAt, endAt, readEnds}
 use Rattle.plan.specs.EndBytes.{Ends as ReadEnds}
-use Rattle.plan.specs.LabelBytes.{codeRead, codeAt, sidesAt, labelOf, labelAt}
-use Rattle.plan.specs.Said.{Form, Said, edge, node, isVersion, formOf, edgeOf, nodeAt, withEnds, nodeBody, nodeOf, byKind, saidOf}
+use Rattle.plan.specs.LabelBytes.{codeRead, sidesAt, labelOf, labelAt}
+use Rattle.plan.specs.Said.{Form, edge, node, isVersion, formOf, edgeOf, nodeAt, withEnds, nodeBody, nodeOf, byKind, saidOf}
 use Rattle.plan.proofs.LawsForm.{Fits, form-fits}
 use Rattle.symmetry.specs.Ends.{formIn}
 use Rattle.symmetry.specs.Exchange.{swapped, otherEnds, otherNode, otherEdge, otherRecord}
@@ -127,7 +136,8 @@ module _ (s t : List ℕ) (p : ℕ) (o : EndOther s t p) where
       (o .second (p + 8 + 4 + 2) (p + 8 + 1 + 2) (omega arith) (omega arith) (omega arith)))
 
   end-read : (d : Dir) (x : Read Label)
-      → (mapped otherLabel x >>= λ l. good (record { dir = d; label = l })) ≡ mapped otherEnd (x >>= λ l. good (record { dir = d; label = l }))
+      → (mapped otherLabel x >>= λ l. good (record { dir = d; label = l }))
+      ≡ mapped otherEnd (x >>= λ l. good (record { dir = d; label = l }))
   end-read d (good l) = refl
   end-read d (bad r) = refl
 
@@ -145,7 +155,8 @@ data EndsOther (s t : List ℕ) : ℕ → ℕ → Type 0 where
   an-end : {n at : ℕ} → EndOther s t at → EndsOther s t n (at + 15) → EndsOther s t (suc n) at
 
 more-read : (x : Read EdgeEnd) (y : ReadEnds)
-    → (mapped otherEnd x >>= λ e. mapped (map otherEnd) y >>= λ es. good (e ∷ es)) ≡ mapped (map otherEnd) (x >>= λ e. y >>= λ es. good (e ∷ es))
+    → (mapped otherEnd x >>= λ e. mapped (map otherEnd) y >>= λ es. good (e ∷ es))
+    ≡ mapped (map otherEnd) (x >>= λ e. y >>= λ es. good (e ∷ es))
 more-read (good e) (good es) = refl
 more-read (good e) (bad r) = refl
 more-read (bad r) y = refl
@@ -207,7 +218,8 @@ place-read (C.Is a) (C.Is b) C.Bad (C.Is q) = refl
 place-read (C.Is a) (C.Is b) (C.Is p) C.Bad = refl
 place-read (C.Is a) (C.Is b) (C.Is p) (C.Is q) =
     mapped-check otherPlace (isNone b || isNone a) (isNone a || isNone b) PositionCode
-    (good (record { «on_a» = b; «on_b» = a; «area_a» = q; «area_b» = p })) (good (record { «on_a» = a; «on_b» = b; «area_a» = p; «area_b» = q }))
+    (good (record { «on_a» = b; «on_b» = a; «area_a» = q; «area_b» = p }))
+    (good (record { «on_a» = a; «on_b» = b; «area_a» = p; «area_b» = q }))
     (or-comm (isNone b) (isNone a)) (λ e. refl)
 
 place-by : (s t : List ℕ) → byteAt t 4 ≡ byteAt s 5 → byteAt t 5 ≡ byteAt s 4 → byteAt t 6 ≡ byteAt s 7 → byteAt t 7 ≡ byteAt s 6
@@ -217,7 +229,8 @@ place-by s t e f g h =
     rw (e, f, g, h) (place-read (codedOf (byteAt s 4)) (codedOf (byteAt s 5)) (codedOf (byteAt s 6)) (codedOf (byteAt s 7)))
 
 body-read : (x : Read Node) (y : ReadEnds)
-    → (mapped otherPlace x >>= λ p. mapped (map otherEnd) y >>= λ es. withEnds p es) ≡ mapped otherSaid (x >>= λ p. y >>= λ es. withEnds p es)
+    → (mapped otherPlace x >>= λ p. mapped (map otherEnd) y >>= λ es. withEnds p es)
+    ≡ mapped otherSaid (x >>= λ p. y >>= λ es. withEnds p es)
 body-read (bad r) y = refl
 body-read (good n) (bad r) = refl
 body-read (good n) (good es) =
@@ -271,14 +284,14 @@ module _ (f : Form) (fits : Fits f) (s : List ℕ) where
         let o = outer-length in
         let b = fits .least in
         place-by s (otherNode f s)
-        (swap-first 4 1 outer (omega arith) 4 5 (omega arith) (omega arith) (omega arith) ∙ swap-before 6 1 inner 5 (omega arith) (omega arith)
-        ∙ inner-at 5 (omega arith) (omega arith))
-        (swap-second 4 1 outer (omega arith) 5 4 (omega arith) (omega arith) (omega arith) ∙ swap-before 6 1 inner 4 (omega arith) (omega arith)
-        ∙ inner-at 4 (omega arith) (omega arith))
-        (swap-after 4 1 outer (omega arith) 6 (omega arith) ∙ swap-first 6 1 inner (omega arith) 6 7 (omega arith) (omega arith) (omega arith)
-        ∙ inner-at 7 (omega arith) (omega arith))
-        (swap-after 4 1 outer (omega arith) 7 (omega arith) ∙ swap-second 6 1 inner (omega arith) 7 6 (omega arith) (omega arith) (omega arith)
-        ∙ inner-at 6 (omega arith) (omega arith))
+        (swap-first 4 1 outer (omega arith) 4 5 (omega arith) (omega arith) (omega arith) ∙
+        swap-before 6 1 inner 5 (omega arith) (omega arith) ∙ inner-at 5 (omega arith) (omega arith))
+        (swap-second 4 1 outer (omega arith) 5 4 (omega arith) (omega arith) (omega arith) ∙
+        swap-before 6 1 inner 4 (omega arith) (omega arith) ∙ inner-at 4 (omega arith) (omega arith))
+        (swap-after 4 1 outer (omega arith) 6 (omega arith) ∙
+        swap-first 6 1 inner (omega arith) 6 7 (omega arith) (omega arith) (omega arith) ∙ inner-at 7 (omega arith) (omega arith))
+        (swap-after 4 1 outer (omega arith) 7 (omega arith) ∙
+        swap-second 6 1 inner (omega arith) 7 6 (omega arith) (omega arith) (omega arith) ∙ inner-at 6 (omega arith) (omega arith))
 
     module _ (long : 2 + f .base + 15 * f .count s ≤ length s) where
       node-ends : EndsOther s (otherNode f s) (f .count s) (2 + f .base)
@@ -309,7 +322,8 @@ edge-read : (x : Read Label) → (mapped otherLabel x >>= λ l. good (edge l)) �
 edge-read (good l) = refl
 edge-read (bad r) = refl
 
-edge-other : (s : List ℕ) → promised (otherEdge s) ≡ promised s → 2 + promised s ≤ length s → edgeOf (otherEdge s) ≡ mapped otherSaid (edgeOf s)
+edge-other : (s : List ℕ) → promised (otherEdge s) ≡ promised s → 2 + promised s ≤ length s
+    → edgeOf (otherEdge s) ≡ mapped otherSaid (edgeOf s)
 unfolding edgeOf
 edge-other s half whole =
     mapped-check otherSaid (not (eqb (promised (otherEdge s)) 9)) (not (eqb (promised s) 9)) Length _ _ (rw half refl) (λ a.

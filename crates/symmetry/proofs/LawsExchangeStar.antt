@@ -1,6 +1,6 @@
 -- Exchanging A and B in every end of a node, and in the node, exchanges them in each label of its completed star; refusal 9 stays; and what
 -- is poured is poured into the cell with row and column exchanged. Assumes nothing.
-use Prim.Native.Nat.{ℕ, max}
+use Prim.Native.Nat.{ℕ}
 use mathlib.Core.Path.{_≡_, refl, ap, _∙_}
 use mathlib.Core.Bool.{Bool, true, false, cond, and-comm, or-comm}
 use mathlib.Core.List.{List, [], _∷_, map}

@@ -50,7 +50,8 @@ and-last true b c = and-comm b c
 and-last false b c = refl
 
 covered : (x y z w c d : Bool)
-    → (x && (c && d) || z && (c && d) || c && (y && d) || c && (w && d)) ≡ (x && (c && d) || y && (c && d) || z && (c && d) || w && (c && d))
+    → (x && (c && d) || z && (c && d) || c && (y && d) || c && (w && d))
+    ≡ (x && (c && d) || y && (c && d) || z && (c && d) || w && (c && d))
 covered x y z w c d = rw (and-swap c y d, and-swap c w d, or-last (x && (c && d)) (z && (c && d)) (y && (c && d))) refl
 
 apart : (a b c d : Bool) → (a && c && b && d) ≡ (a && b && c && d)
@@ -134,7 +135,8 @@ module _ (m : Matrix) where
   unfolding holds agreeAll letterOf
   equal-topo-stays =
       rw (
-        nine-rows (isF m I I) (isF m I B) (isF m I E) (isF m B I) (isF m B B) (isF m B E) (isF m E I) (isF m E B) (eqb (numberAt m E E) 3 && true),
+        nine-rows (isF m I I) (isF m I B) (isF m I E) (isF m B I) (isF m B B) (isF m B E) (isF m E I) (isF m E B)
+            (eqb (numberAt m E E) 3 && true),
         four-rows (isF m I E) (isF m B E) (isF m E I) (isF m E B) true,
       )
       refl

@@ -1,7 +1,7 @@
 -- Request R-12: "For accepted records, reordering .. the records of a run, gives the same nine cells". A run is one string of bytes that
 -- `floorOf` of `plan` accepts to the end. Assumes nothing.
-use Prim.Native.Nat.{ℕ, zero, suc, _+_, _≤_, _<_}
-use mathlib.Core.Path.{_≡_, refl, sym, ap, subst⁻¹, _∙_}
+use Prim.Native.Nat.{ℕ, zero, suc, _+_, _≤_}
+use mathlib.Core.Path.{_≡_, refl, sym, ap, _∙_}
 use mathlib.Core.List.{List, [], _∷_, _++_, List·Permᴰ, List·Permᴰ·nil, List·Permᴰ·cons, List·Permᴰ·swap, List·Permᴰ·trans}
 use native.Mathlib.Omega.{arith}
 use lib.ListN.{length, take, drop, length-append, length-drop, take-append-drop}
@@ -16,12 +16,12 @@ use Rattle.order.proofs.LawsPerm.{all-perm, perm-length}
 use Rattle.frame.specs.Read.{good}
 use Rattle.frame.specs.Words.{promised}
 use Rattle.plan.specs.declared.floor.FloorAnswer.{FloorAnswer}
-use Rattle.plan.specs.Floor.{stoppedAs, behind, floorOf}
+use Rattle.plan.specs.Floor.{behind, floorOf}
 use Rattle.plan.specs.Record.{pourSaid, recordOf}
 use Rattle.plan.specs.Said.{Said, saidOf}
 use Rattle.plan.proofs.LawsAfter.{spent, cut-out}
 use Rattle.plan.proofs.LawsFloor.{floor-empty, floor-refused, floor-accepted, floor-then}
-use Rattle.plan.proofs.LawsSaid.{says, same-answer}
+use Rattle.plan.proofs.LawsSaid.{says}
 use Rattle.traced.specs.Made.{afterAll}
 use Rattle.symmetry.specs.Runs.{flat, cut, recordsOf}
 use Rattle.symmetry.specs.Ends.{withEnds, Reordered, no-record, a-record}
@@ -148,8 +148,9 @@ flat-ends ns (more o os) (a-record {r = r} {rs = rs} {qs = qs} bs p t) =
     let long = ends-long ns r (length r) a bs p in
     let b : recordOf ns (withEnds r bs) .answer ≡ A.Used (length (withEnds r bs)) =
     ap (λ (x : BytesAnswer). x .answer) kept ∙ a ∙ ap A.Used long in
-    floor-then ns (withEnds r bs) (flat qs) b ∙ ap (λ (n : ℕ). behind n 1 (floorOf (recordOf ns (withEnds r bs) .cells) (flat qs))) (sym long)
-    ∙ ap (λ (x : BytesAnswer). behind (length r) 1 (floorOf (x .cells) (flat qs))) kept ∙
+    floor-then ns (withEnds r bs) (flat qs) b ∙
+    ap (λ (n : ℕ). behind n 1 (floorOf (recordOf ns (withEnds r bs) .cells) (flat qs))) (sym long) ∙
+    ap (λ (x : BytesAnswer). behind (length r) 1 (floorOf (x .cells) (flat qs))) kept ∙
     ap (behind (length r) 1) (flat-ends (recordOf ns r .cells) os t) ∙ sym (floor-then ns r (flat rs) a)
 
 -- the ends of any of its nodes in any other order: accepted, as many bytes, as many records, the same nine cells

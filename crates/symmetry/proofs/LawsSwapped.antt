@@ -1,9 +1,9 @@
 -- Bytes that change places: none is lost, and each stands where it should. Assumes nothing.
-use Prim.Native.Nat.{ℕ, _+_, _≤_, _<_, min, _-_}
-use mathlib.Core.Path.{_≡_, refl, sym, ap, _∙_}
-use mathlib.Core.List.{List, _++_, append-assoc, List·Permᴰ, List·Permᴰ·trans, Permᴰ·refl, Permᴰ·append-left, Permᴰ·append-right}
+use Prim.Native.Nat.{ℕ, _+_, _≤_, _<_, _-_}
+use mathlib.Core.Path.{_≡_, ap, _∙_}
+use mathlib.Core.List.{List, _++_}
 use native.Mathlib.Omega.{arith}
-use lib.ListN.{length, take, drop, getD, length-append, length-take, length-drop, List·getD-append}
+use lib.ListN.{length, take, drop, length-append, length-take, length-drop, List·getD-append}
 use lib.Seq.{getD-take, getD-drop, getD-append-add, length-take-le}
 use Rattle.frame.specs.Words.{byteAt}
 use Rattle.symmetry.specs.Exchange.{swapped}

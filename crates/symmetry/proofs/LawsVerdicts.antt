@@ -1,14 +1,12 @@
--- Verdicts with A and B exchanged: of the transposed matrix a predicate's partner, and a pattern with its letters transposed, has the verdict
--- that the predicate, or the pattern, had of the matrix. Assumes nothing.
-use Prim.Native.Nat.{ℕ, zero, suc, _+_, _≤_}
+-- Verdicts with A and B exchanged: of the transposed matrix a predicate's partner, and a pattern with its letters transposed, has the
+-- verdict that the predicate, or the pattern, had of the matrix. Assumes nothing.
+use Prim.Native.Nat.{ℕ, zero, suc, _+_}
 use mathlib.Core.Path.{_≡_, refl, sym, ap, _∙_}
 use mathlib.Core.Bool.{Bool, true, false, cond}
-use mathlib.Core.List.{List, [], _∷_, _++_, map}
+use mathlib.Core.List.{List, [], _∷_, map}
 use lib.Dec.{eqb, ltb}
 use lib.ListN.{length, take, drop}
-use Rattle.de9im.specs.declared.answer.Checked.the-variants.{Fine}
 use Rattle.de9im.specs.Cells.{matrixOf}
-use Rattle.de9im.specs.Patterns.{checkOf, matchesOf}
 use Rattle.de9im.proofs.LawsBool.{and-right}
 use Rattle.de9im.proofs.LawsMatches.{fine-good}
 use Rattle.predicates.specs.declared.predicate.Predicate.{Predicate}
@@ -40,7 +38,8 @@ unfolding swapped
 bytes-swapped at n s h =
     bytes-both (take at s) _ (bytes-front at s h)
     (bytes-both (take n (drop (at + n) s)) _ (bytes-front n (drop (at + n) s) (bytes-back (at + n) s h))
-    (bytes-both (take n (drop at s)) (drop (at + (n + n)) s) (bytes-front n (drop at s) (bytes-back at s h)) (bytes-back (at + (n + n)) s h)))
+    (bytes-both (take n (drop at s)) (drop (at + (n + n)) s) (bytes-front n (drop at s) (bytes-back at s h))
+    (bytes-back (at + (n + n)) s h)))
 
 bytes-ends : (n at : ℕ) (s : List ℕ) → isBytes s ≡ true → isBytes (otherEnds n at s) ≡ true
 unfolding otherEnds

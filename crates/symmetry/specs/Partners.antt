@@ -1,5 +1,5 @@
--- Request R-12: "within answers as contains did, coveredby as covers did, and disjoint, intersects, touches, crosses, overlaps and equal_topo
--- stay": which predicate answers of the transposed matrix as another did. Contains_properly has none (`no-partner` of
+-- Request R-12: "within answers as contains did, coveredby as covers did, and disjoint, intersects, touches, crosses, overlaps and
+-- equal_topo stay": which predicate answers of the transposed matrix as another did. Contains_properly has none (`no-partner` of
 -- proofs/Examples.antt).
 use Rattle.predicates.specs.declared.predicate.Predicate.{Predicate}
 use Rattle.predicates.specs.declared.predicate.Predicate.the-variants.{

@@ -1,5 +1,5 @@
--- Request R-12, sentence by sentence, each as one statement over the bytes that a person sends. That all of them hold is proofs/AllHold.antt;
--- what doesn't hold is proofs/Examples.antt.
+-- Request R-12, sentence by sentence, each as one statement over the bytes that a person sends. That all of them hold is
+-- proofs/AllHold.antt; what doesn't hold is proofs/Examples.antt.
 use Prim.Native.Nat.{ℕ}
 use mathlib.Core.Path.{_≡_}
 use mathlib.Core.Bool.{false, _&&_}
