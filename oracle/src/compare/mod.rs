@@ -92,7 +92,9 @@ impl Run {
 fn argument(place: usize, default: u64) -> u64 {
     match std::env::args().nth(place) {
         Some(word) => word.parse().unwrap_or_else(|_| {
-            eprintln!("usage: compare [SEED [MULTIPLIER [ends | traced | symmetry]]]   (whole numbers)");
+            eprintln!(
+                "usage: compare [SEED [MULTIPLIER [ends | traced | symmetry]]]   (whole numbers)"
+            );
             std::process::exit(2)
         }),
         None => default,

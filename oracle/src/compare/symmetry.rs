@@ -4,7 +4,7 @@
 use super::Run;
 use crate::floor_pieces::{accepted_node_of, any_floor_of, floor_of};
 use crate::ours::floor_room::FloorRoom;
-use crate::ours::plans::{PlanCall, PlanOp};
+use crate::ours::plans::{PlanCall, PlanOp, PlanReply};
 use crate::ours::{Call, Op, Reply};
 use crate::pieces::{MATRICES, good_pattern, matrix_by_number};
 use crate::plan_pieces::{Version, edge_record_of};
@@ -48,7 +48,9 @@ fn shuffle<T>(random: &mut Random, all: &mut [T]) {
 /// Where a whole record ends, by its length field; a part of one reaches to the end.
 fn first_record(bytes: &[u8]) -> usize {
     match bytes {
-        [high, low, ..] => bytes.len().min(2 + usize::from(u16::from_be_bytes([*high, *low]))),
+        [high, low, ..] => bytes
+            .len()
+            .min(2 + usize::from(u16::from_be_bytes([*high, *low]))),
         _ => bytes.len(),
     }
 }
@@ -68,7 +70,9 @@ fn ends_in(record: &[u8]) -> Option<(usize, usize)> {
     let form = Form::of(*record.get(2)?).ok()?;
     let at = 8 + form.count_bytes;
     let count = record.get(8..at)?;
-    let count = count.iter().fold(0, |all, byte| 256 * all + usize::from(*byte));
+    let count = count
+        .iter()
+        .fold(0, |all, byte| 256 * all + usize::from(*byte));
     let whole = record[3] == 1 && record.len() == at + END_BYTES * count;
     whole.then_some((at, count))
 }
@@ -138,7 +142,7 @@ fn ask_floor(run: &mut Run, cells: [u8; 9], floors: Vec<Vec<u8>>) -> Vec<(u32, F
     let call = |bytes| PlanCall::floor(PlanOp::Floor, cells, bytes);
     let calls: Vec<_> = floors.into_iter().map(call).collect();
     let replies = run.answered(&calls);
-    let room = |reply: &crate::ours::plans::PlanReply| (reply.word, FloorRoom::from_le_bytes(&reply.out));
+    let room = |reply: &PlanReply| (reply.word, FloorRoom::from_le_bytes(&reply.out));
     replies.iter().map(room).collect()
 }
 
@@ -160,7 +164,10 @@ fn records_in_any_order(run: &mut Run) {
         let replies = ask_floor(run, cells, floors);
         for (word, room) in &replies {
             assert_eq!(*word, replies[0].0, "accepted");
-            assert_eq!(room.answer, replies[0].1.answer, "as many bytes and records");
+            assert_eq!(
+                room.answer, replies[0].1.answer,
+                "as many bytes and records"
+            );
             assert_eq!(room.cells, replies[0].1.cells, "the same nine cells");
         }
     }
@@ -183,49 +190,79 @@ fn sides_exchanged(run: &mut Run) {
         let twice = |record: &Vec<u8>| exchanged(&exchanged(record));
         let all = records(&bytes);
         assert_eq!(all.iter().map(twice).collect::<Vec<_>>().concat(), bytes);
-        let other = all.iter().map(|record| exchanged(record)).collect::<Vec<_>>().concat();
+        let other = all
+            .iter()
+            .map(|record| exchanged(record))
+            .collect::<Vec<_>>()
+            .concat();
         let first = ask_floor(run, cells, vec![bytes]);
         let second = ask_floor(run, transposed(&cells), vec![other]);
         let ((word, room), (other_word, other_room)) = (&first[0], &second[0]);
         assert_eq!(word, other_word, "accepted, or refused by the same number");
         assert_eq!(room.answer, other_room.answer, "as many bytes and records");
-        assert_eq!(transposed(&room.cells), other_room.cells, "the transposed cells");
+        assert_eq!(
+            transposed(&room.cells),
+            other_room.cells,
+            "the transposed cells"
+        );
     }
 }
 
-/// Has these calls answered and counted at once.
-fn answered(run: &mut Run, calls: &[Call]) -> Vec<Reply> {
-    let replies = run.library.answer(calls);
-    for (call, reply) in calls.iter().zip(&replies) {
-        run.tally.take(run.kind, call, reply);
-    }
-    replies
+/// Has calls answered and counted at once, two by two.
+fn answered(run: &mut Run, pairs: &[[Call; 2]]) -> Vec<[Reply; 2]> {
+    let calls = pairs.as_flattened();
+    let mut replies = run.library.answer(calls).into_iter();
+    let mut take = |call: &Call| {
+        let reply = replies.next().expect("one for each");
+        run.tally.take(run.kind, call, &reply);
+        reply
+    };
+    let take_both = |pair: &[Call; 2]| pair.each_ref().map(&mut take);
+    pairs.iter().map(take_both).collect()
 }
 
-/// Every matrix and its transposed: all eleven predicates, and the verdict of each of the ten that have a partner.
+/// So many matrices at once, with the number of each.
+fn every_matrix(step: usize) -> impl Iterator<Item = Vec<[u8; 9]>> {
+    let starts = (0..MATRICES).step_by(512 * step);
+    starts.map(move |start| {
+        let end = MATRICES.min(start + 512 * step);
+        (start..end).step_by(step).map(matrix_by_number).collect()
+    })
+}
+
+/// Every matrix and its transposed: all eleven predicates; and of some the verdict of each of the ten that have a partner.
 fn answers_transposed(run: &mut Run) {
     run.begin("symmetry: predicates of every matrix and its transposed");
-    for number in 0..MATRICES {
-        let cells = matrix_by_number(number);
-        let calls = [cells, transposed(&cells)].map(|cells| Call::plain(Op::Predicates, cells));
-        let replies = answered(run, &calls);
-        let says = |reply: &Reply, which: u32| reply.word >> which & 1;
-        for (which, partner) in PARTNERS.iter().enumerate() {
-            if let Some(partner) = partner {
-                assert_eq!(says(&replies[0], which as u32), says(&replies[1], *partner));
+    for matrices in every_matrix(1) {
+        let both = |cells: &[u8; 9]| {
+            [*cells, transposed(cells)].map(|cells| Call::plain(Op::Predicates, cells))
+        };
+        let pairs: Vec<_> = matrices.iter().map(both).collect();
+        for [first, second] in answered(run, &pairs) {
+            let says = |reply: &Reply, which: u32| reply.word >> which & 1;
+            for (which, partner) in PARTNERS.iter().enumerate() {
+                if let Some(partner) = partner {
+                    assert_eq!(says(&first, which as u32), says(&second, *partner));
+                }
             }
+            let several: u32 = [8, 9, 10].map(|which| says(&first, which)).iter().sum();
+            assert!(
+                several <= 1,
+                "touches, crosses and overlaps exclude each other"
+            );
         }
-        let several: u32 = [8, 9, 10].map(|which| says(&replies[0], which)).iter().sum();
-        assert!(several <= 1, "touches, crosses and overlaps exclude each other");
     }
-    run.begin("symmetry: verdicts of a matrix and its transposed");
-    for number in (0..MATRICES).step_by(3) {
-        let cells = matrix_by_number(number);
+    run.begin("symmetry: verdicts of every seventh matrix and its transposed");
+    for matrices in every_matrix(7) {
         for (which, partner) in PARTNERS.iter().enumerate() {
-            if let Some(partner) = partner {
-                let second = Call::verdict(transposed(&cells), *partner);
-                let replies = answered(run, &[Call::verdict(cells, which as u32), second]);
-                assert_eq!(replies[0].word, replies[1].word);
+            let Some(partner) = partner else { continue };
+            let both = |cells: &[u8; 9]| {
+                let second = Call::verdict(transposed(cells), *partner);
+                [Call::verdict(*cells, which as u32), second]
+            };
+            let pairs: Vec<_> = matrices.iter().map(both).collect();
+            for [first, second] in answered(run, &pairs) {
+                assert_eq!(first.word, second.word);
             }
         }
     }
@@ -233,15 +270,20 @@ fn answers_transposed(run: &mut Run) {
 
 /// Good patterns with their letters transposed: what `matches` says, and the verdict.
 fn patterns_transposed(run: &mut Run) {
-    run.begin("symmetry: patterns and their verdicts, letters transposed, of a matrix and its transposed");
-    for _ in 0..run.times(60_000) {
-        let (cells, pattern) = (run.random.cells(), good_pattern(&mut run.random));
-        let others = (transposed(&cells), transposed(&pattern));
-        for op in [Op::Matches, Op::VerdictPattern] {
-            let first = Call::with_text(op, cells, &pattern);
-            let second = Call::with_text(op, others.0, &others.1);
-            let replies = answered(run, &[first, second]);
-            assert_eq!(replies[0].word, replies[1].word);
+    run.begin(
+        "symmetry: patterns and their verdicts, letters transposed, of a matrix and its transposed",
+    );
+    for op in [Op::Matches, Op::VerdictPattern] {
+        for _ in 0..run.times(60) {
+            let mut pairs = Vec::new();
+            for _ in 0..1000 {
+                let (cells, pattern) = (run.random.cells(), good_pattern(&mut run.random));
+                let second = Call::with_text(op, transposed(&cells), &transposed(&pattern));
+                pairs.push([Call::with_text(op, cells, &pattern), second]);
+            }
+            for [first, second] in answered(run, &pairs) {
+                assert_eq!(first.word, second.word);
+            }
         }
     }
 }
