@@ -13,6 +13,7 @@ mod records;
 mod regions;
 mod reports;
 mod stars;
+mod symmetry;
 mod tally;
 mod text;
 mod traced;
@@ -91,7 +92,9 @@ impl Run {
 fn argument(place: usize, default: u64) -> u64 {
     match std::env::args().nth(place) {
         Some(word) => word.parse().unwrap_or_else(|_| {
-            eprintln!("usage: compare [SEED [MULTIPLIER [ends | traced]]]   (whole numbers)");
+            eprintln!(
+                "usage: compare [SEED [MULTIPLIER [ends | traced | symmetry]]]   (whole numbers)"
+            );
             std::process::exit(2)
         }),
         None => default,
@@ -114,10 +117,11 @@ pub fn main() -> i32 {
     };
     println!("seed {seed}, random counts times {multiplier}");
     println!("the library is {}", run.library.way());
-    // Request R-11's or R-7's part alone: the report then has answers that were never met.
+    // Request R-11's, R-7's or R-12's part alone: the report then has answers that were never met.
     if let Some(part) = std::env::args().nth(3) {
         match part.as_str() {
             "traced" => traced::compare(&mut run),
+            "symmetry" => symmetry::compare(&mut run),
             _ => {
                 many_ends::compare(&mut run);
                 conversions::compare(&mut run);
@@ -147,6 +151,7 @@ pub fn main() -> i32 {
     conversions::compare(&mut run);
     regions::compare(&mut run);
     traced::compare(&mut run);
+    symmetry::compare(&mut run);
     run.answer_waiting();
     run.tally.report()
 }
