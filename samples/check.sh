@@ -1,6 +1,6 @@
 #!/bin/sh
-# Runs ./relate on each sample plan, on each example of docs/REFUSALS.md and on words that it doesn't take, then ./changed
-# on two files and such words, and compares what they print and say.
+# Runs ./relate on each sample plan, on each example of docs/REFUSALS.md and on words that it doesn't take, then ./changed and ./ask
+# on their examples and such words, and compares what they print and say.
 set -eu
 cd "$(dirname "$0")/.."
 work=$(mktemp -d)
@@ -68,6 +68,35 @@ for words in --nothing '' $pair/two.reports "$pair/two.reports $pair/two.reports
 done
 ./changed --help >"$work/out"
 [ "$(wc -l <"$work/out")" -le 30 ] || wrong "the help of ./changed is longer than a screen"
+
+# ./ask: each example of the pages (a line `$ ./ask ..`, and below it what is printed), the page's ten patterns, and words that it
+# doesn't take
+awk -v work="$work" '{ sub(/^    /, "") }
+    /^\$ \.\/ask / { n++; print substr($0, 3) >(work "/" n ".ask"); on = 1; next }
+    /^```/ || $0 == "" { on = 0 }
+    on { print >(work "/" n ".due") }' README.md docs/INSTALLERS.md
+count=0
+for example in "$work"/*.ask; do
+    count=$((count + 1))
+    sh "$example" >"$work/out"
+    cmp "$work/out" "${example%.ask}.due" || wrong "$(cat "$example")"
+done
+[ "$count" -ge 4 ] || wrong "README.md and docs/INSTALLERS.md have $count examples of ./ask"
+# shellcheck disable=SC2016
+sed -n 's/^| `\(.........\)` | .*/\1/p' docs/INSTALLERS.md >"$work/patterns"
+[ "$(wc -l <"$work/patterns")" -eq 10 ] || wrong "docs/INSTALLERS.md has other than ten patterns"
+while IFS= read -r pattern; do
+    [ "$(./ask "$pattern" | wc -l)" -eq 9 ] || wrong "./ask $pattern"
+done <"$work/patterns"
+echo "ok $count examples of ./ask, ten patterns"
+for words in --nothing '' 'T******** 212101212 212101212'; do
+    status=0
+    # shellcheck disable=SC2086
+    (set -f && ./ask $words) >"$work/out" 2>"$work/said" || status=$?
+    if [ "$status" -ne 2 ] || [ -s "$work/out" ] || [ "$(wc -l <"$work/said")" -ne 1 ]; then wrong "./ask $words"; fi
+done
+./ask --help >"$work/out"
+[ "$(wc -l <"$work/out")" -le 30 ] || wrong "the help of ./ask is longer than a screen"
 
 [ "$failed" -eq 0 ] && echo "all samples are as they should be"
 exit "$failed"

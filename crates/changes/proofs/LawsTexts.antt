@@ -8,10 +8,11 @@ use lib.Dec.{eqb}
 use lib.ListN.{length, getD}
 use Rattle.de9im.specs.Bytes.{bytes}
 use Rattle.de9im.specs.Text.{byteOf}
+use Rattle.channel.specs.Cells.{partOf}
 use Rattle.channel.specs.Decimal.{decimalOf}
 use Rattle.changes.specs.declared.side.Side.{Side}
 use Rattle.changes.specs.declared.side.Side.the-variants.{Old, New}
-use Rattle.changes.specs.Lines.{Line, sideName, partOf, textOf, textsOf}
+use Rattle.changes.specs.Lines.{Line, sideName, textOf, textsOf}
 use Rattle.changes.specs.Lines.Line.{changed, only, refused}
 use Rattle.changes.specs.Changed.{cellLine, firstCells}
 

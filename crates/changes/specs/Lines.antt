@@ -1,11 +1,11 @@
 -- Request R-14: "a line for each cell that differs: report number from 1, cell name, old letter, new letter, parted by spaces .. Then
 -- `only in old N` or `only in new N` for each unpaired one." "Refusals: one line only, as `refused old 11 at 12`: the file, .. the number
 -- and the offset". Every line ends in a newline.
-use Prim.Native.Nat.{ℕ, zero, suc, _/_, _%_}
-use Prim.Native.Char.{code}
+use Prim.Native.Nat.{ℕ}
 use mathlib.Core.List.{List, [], _∷_, _++_}
 use Rattle.de9im.specs.Bytes.{bytes}
 use Rattle.de9im.specs.Text.{byteOf}
+use Rattle.channel.specs.Cells.{cellName}
 use Rattle.channel.specs.Decimal.{decimalOf}
 use Rattle.changes.specs.declared.side.Side.{Side}
 use Rattle.changes.specs.declared.side.Side.the-variants.{Old, New}
@@ -21,15 +21,6 @@ pub data Line : Type 0 where
 abbrev pub sideName : Side → List ℕ
 sideName Old = bytes "old"
 sideName New = bytes "new"
-
--- the first letter of a cell's name is A's part, the second B's: II IB IE BI BB BE EI EB EE
-abbrev pub partOf : ℕ → ℕ
-partOf zero = code "I"
-partOf (suc zero) = code "B"
-partOf (suc (suc k)) = code "E"
-
-abbrev pub cellName : ℕ → List ℕ
-cellName i = partOf (i / 3) ∷ partOf (i % 3) ∷ []
 
 unfoldable pub textOf : Line → List ℕ
 textOf (changed n i a b) =

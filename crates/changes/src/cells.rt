@@ -1,4 +1,6 @@
 // The lines of two matrices, one for each cell that differs.
+use channel::cells::letter;
+use channel::cells::part;
 use channel::lines::push;
 use channel::lines::push_decimal;
 use de9im::cells::Cells;
@@ -6,33 +8,9 @@ ghost use mathlib.Core.Path.{_≡_};
 ghost use mathlib.Core.List.{_++_};
 ghost use Prim.Native.Nat.{_+_, _≤_};
 ghost use lib.ListN.{length, take};
-ghost use Rattle.de9im.specs.Text.{byteOf};
-ghost use Rattle.changes.specs.Lines.{partOf, textOf, textsOf};
+ghost use Rattle.changes.specs.Lines.{textOf, textsOf};
 ghost use Rattle.changes.specs.Lines.Line.{changed};
 ghost use Rattle.changes.specs.Changed.{cellLine, cellLines};
-
-// A dimension's letter.
-fn letter(c: u8) -> u8
-    ensures { λ r. ⌜ r ≡ byteOf c ⌝ }
-{
-    match c {
-        0 => b'F',
-        1 => b'0',
-        2 => b'1',
-        _ => b'2',
-    }
-}
-
-// The letter of inside, boundary or outside.
-fn part(k: usize) -> u8
-    ensures { λ r. ⌜ r ≡ partOf k ⌝ }
-{
-    match k {
-        0 => b'I',
-        1 => b'B',
-        _ => b'E',
-    }
-}
 
 fn push_changed(out: &mut [u8], at: usize, n: u64, i: usize, was: u8, is: u8) -> usize
     requires { ⌜ at + 28 ≤ length (now out) ⌝ }

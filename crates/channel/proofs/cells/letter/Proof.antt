@@ -2,8 +2,8 @@ use Prim.Native.Nat.{ℕ, zero, suc}
 use mathlib.Core.Path.{_≡_, refl}
 use Rattle.de9im.specs.Text.{byteOf}
 use borrow.Author.Needs.{needs}
-use Rattle.changes.proofs.cells.letter.Statement.{statement}
-use Rattle.changes.proofs.cells.letter.Tie as tie
+use Rattle.channel.proofs.cells.letter.Statement.{statement}
+use Rattle.channel.proofs.cells.letter.Tie as tie
 
 other : (n : ℕ) → (n ≡ 0 → ⊥) → (n ≡ 1 → ⊥) → (n ≡ 2 → ⊥) → 50 ≡ byteOf n
 other zero a b d = absurd (a refl)

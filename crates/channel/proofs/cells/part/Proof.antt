@@ -1,9 +1,9 @@
 use Prim.Native.Nat.{ℕ, zero, suc}
 use mathlib.Core.Path.{_≡_, refl}
-use Rattle.changes.specs.Lines.{partOf}
+use Rattle.channel.specs.Cells.{partOf}
 use borrow.Author.Needs.{needs}
-use Rattle.changes.proofs.cells.part.Statement.{statement}
-use Rattle.changes.proofs.cells.part.Tie as tie
+use Rattle.channel.proofs.cells.part.Statement.{statement}
+use Rattle.channel.proofs.cells.part.Tie as tie
 
 other : (n : ℕ) → (n ≡ 0 → ⊥) → (n ≡ 1 → ⊥) → 69 ≡ partOf n
 other zero a b = absurd (a refl)
