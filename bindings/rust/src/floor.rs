@@ -51,7 +51,7 @@ impl Floor {
 /// stopping at the first refused one. No bytes are accepted, with nothing used.
 /// [`pour_floor`](IntersectionMatrix::pour_floor) is the same for a caller that has a matrix.
 ///
-/// Promised: `floorOf`, crates/plan/specs/Floor.antt.
+/// Promised: `floorOf`, crates/floors/specs/Floor.antt.
 ///
 /// ```
 /// use misonkandi::{Refusal, floor};

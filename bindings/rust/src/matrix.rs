@@ -290,7 +290,7 @@ impl IntersectionMatrix {
     /// matter, so the next record stands there.
     ///
     /// Refused: 1 to 9, in the order that document 01 gives, and nothing changed. Promised: `recordOf`,
-    /// crates/plan/specs/Record.antt; no cell falls, whatever is poured (`run-rises`, crates/plan/proofs/LawsRun.antt).
+    /// crates/plan/specs/Record.antt; no cell falls, whatever is poured (`run-rises`, crates/floors/proofs/LawsRun.antt).
     ///
     /// ```
     /// use misonkandi::{IntersectionMatrix, Refusal};
@@ -309,7 +309,7 @@ impl IntersectionMatrix {
     /// Pours a floor into the matrix, in one call: its records one by one, up to the first that is refused. That one changes
     /// nothing, and the earlier ones stay.
     ///
-    /// Promised: `floorOf`, crates/plan/specs/Floor.antt; no cell falls (`run-rises`, crates/plan/proofs/LawsRun.antt).
+    /// Promised: `floorOf`, crates/floors/specs/Floor.antt; no cell falls (`run-rises`, crates/floors/proofs/LawsRun.antt).
     ///
     /// ```
     /// use misonkandi::{IntersectionMatrix, Refusal};

@@ -28,9 +28,9 @@ use Rattle.star.specs.Calls.{bundledAs, bundledOf, refusedStar, starCall, starO
 use Rattle.star.specs.Answers.{bundledPlace, labeledPlace}
 use Rattle.star.proofs.LawsNumbers.{bundle-place, star-place}
 use Rattle.bundles.specs.Shown.{shownWord}
-use Rattle.plan.specs.EndBytes.{Ends, good, bad, readEnds, endsCall}
-use Rattle.plan.specs.declared.«node_ends».JoinedEnds.{JoinedEnds}
-use Rattle.plan.specs.Inner.Gathering.{ReadBy, JoinedRead}
+use Rattle.decoder.specs.EndBytes.{Ends, good, bad, readEnds, endsCall}
+use Rattle.decoder.specs.declared.«node_ends».JoinedEnds.{JoinedEnds}
+use Rattle.decoder.specs.Inner.Gathering.{ReadBy, JoinedRead}
 use Rattle.plan.proofs.LawsRecord.{call-fine}
 use Rattle.plan.proofs.LawsSmall.{readPlace, call-nowhere}
 use Rattle.labels.specs.declared.«star_call».LabelsPut.{LabelsPut}

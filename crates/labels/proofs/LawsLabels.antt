@@ -8,7 +8,7 @@ use lib.ListN.{length, drop, set, getD, length-append}
 use lib.Seq.{drop-cons, set-at, append-snoc}
 use Rattle.ends.specs.declared.label.Label.{Label}
 use Rattle.ends.specs.Label.{codeOf}
-use Rattle.star.specs.Inner.Places.{positionOf}
+use Rattle.walks.specs.Inner.Places.{positionOf}
 use Rattle.labels.specs.Labels.{labelBytes, labelsBytes}
 use Rattle.labels.specs.Inner.Front.{Front}
 

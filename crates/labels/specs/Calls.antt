@@ -17,7 +17,7 @@ use Rattle.star.specs.declared.«edge_end_bundle».Bundled.{Bundled}
 use Rattle.star.specs.declared.«edge_end_bundle».Bundled.the-variants as D
 use Rattle.star.specs.declared.«edge_end_bundle_star».Labeled.{Labeled}
 use Rattle.star.specs.Calls.{bundledOf, refusedStar, starCall}
-use Rattle.plan.specs.EndBytes.{Ends, good, bad}
+use Rattle.decoder.specs.EndBytes.{Ends, good, bad}
 use Rattle.labels.specs.declared.«star_call».LabelsPut.{LabelsPut}
 use Rattle.labels.specs.Labels.{labelsBytes}
 

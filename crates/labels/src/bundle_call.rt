@@ -2,12 +2,12 @@
 use crate::count::counted;
 use bundles::shown::label_of;
 use de9im::answer::Checked;
+use decoder::node_ends::join_ends;
 use ends::label::blank;
-use plan::node_ends::join_ends;
 use star::edge_end_bundle::Bundled;
 use star::edge_end_bundle::bundled_as;
 ghost use mathlib.Core.Path.{_≡_};
-ghost use Rattle.plan.specs.EndBytes.{endsCall};
+ghost use Rattle.decoder.specs.EndBytes.{endsCall};
 ghost use Rattle.labels.specs.Calls.{bundleCall};
 
 pub fn bundle_bytes(s: &[u8]) -> Bundled

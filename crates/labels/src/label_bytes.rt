@@ -1,13 +1,13 @@
 // A label as seven bytes: its kind, then on, left, right for A, then for B.
 use ends::label::Label;
 use ends::topology_position::code;
-use star::places::Places;
+use walks::places::Places;
 ghost use mathlib.Core.Bool.{cond};
 ghost use mathlib.Core.Path.{_≡_};
 ghost use Prim.Native.Nat.{_/_, _%_};
 ghost use Rattle.ends.specs.Bundle.{bit};
 ghost use Rattle.ends.specs.Label.{codeOf};
-ghost use Rattle.star.specs.Inner.Places.{positionOf, labelIn};
+ghost use Rattle.walks.specs.Inner.Places.{positionOf, labelIn};
 ghost use Rattle.labels.specs.Labels.{labelBytes};
 
 fn kind(area: bool) -> u8

@@ -10,8 +10,8 @@ use Rattle.de9im.specs.declared.answer.Checked.{Checked}
 use Rattle.de9im.specs.declared.answer.Checked.the-variants.{Fine, Refused}
 use Rattle.de9im.specs.Refused.{numberOf}
 use Rattle.pieces.specs.Pieces.{Holds}
-use Rattle.plan.specs.declared.floor.FloorAnswer.{FloorAnswer}
-use Rattle.plan.specs.Floor.{floorOf}
+use Rattle.floors.specs.declared.floor.FloorAnswer.{FloorAnswer}
+use Rattle.floors.specs.Floor.{floorOf}
 use Rattle.misonkandi.specs.Words.{refusalWord, checkedWord}
 
 -- a floor's answer: the word, the cells and the two counts

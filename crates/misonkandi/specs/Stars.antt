@@ -11,7 +11,7 @@ use Rattle.star.specs.declared.«edge_end_bundle».Bundled.{Bundled}
 use Rattle.star.specs.declared.«edge_end_bundle».Bundled.the-variants as D
 use Rattle.star.specs.declared.«edge_end_bundle_star».Labeled.{Labeled}
 use Rattle.star.specs.Calls.{refusedStar}
-use Rattle.plan.specs.EndBytes.{Ends, endsCall}
+use Rattle.decoder.specs.EndBytes.{Ends, endsCall}
 use Rattle.labels.specs.Calls.{countOf, starOn, shownLabels, starChecked, frontOr}
 use Rattle.labels.specs.Labels.{labelBytes}
 use Rattle.misonkandi.specs.declared.changes.Pair.{Pair}

@@ -2,7 +2,6 @@
 // them for C; a matrix crosses as its nine flat numbers, an answer as one word.
 pub mod changes;
 pub mod conversions;
-pub mod floors;
 pub mod outlines;
 pub mod places;
 pub mod records;
@@ -14,6 +13,7 @@ pub mod shapes;
 pub mod stars;
 pub mod tracing;
 pub mod verdicts;
+pub mod whole_floors;
 pub mod words;
 
 use crate::changes::How;

@@ -16,7 +16,7 @@ ghost use Prim.Native.Nat.{_≤_, _<_};
 ghost use Rattle.de9im.specs.Answers.{checkedPlace};
 ghost use Rattle.de9im.specs.Refused.{spotNo};
 ghost use Rattle.star.specs.Answers.{bundledPlace};
-ghost use Rattle.plan.specs.EndBytes.{endsCall};
+ghost use Rattle.decoder.specs.EndBytes.{endsCall};
 ghost use Rattle.labels.specs.Calls.{bundleCall};
 ghost use Rattle.misonkandi.specs.Changes.{pairOf};
 ghost use Rattle.misonkandi.specs.Words.{wordOr};

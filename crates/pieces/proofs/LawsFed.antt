@@ -17,9 +17,9 @@ use Rattle.de9im.proofs.LawsApart.{impossible, fine-refused}
 use Rattle.de9im.proofs.LawsBool.{told}
 use Rattle.frame.specs.Rules.{short}
 use Rattle.frame.specs.Words.{promised}
-use Rattle.plan.specs.declared.floor.FloorAnswer.{FloorAnswer}
-use Rattle.plan.specs.Floor.{stoppedAs, behind, floorOf}
-use Rattle.plan.proofs.LawsFloor.{floor-empty, floor-used, floor-left}
+use Rattle.floors.specs.declared.floor.FloorAnswer.{FloorAnswer}
+use Rattle.floors.specs.Floor.{stoppedAs, behind, floorOf}
+use Rattle.floors.proofs.LawsFloor.{floor-empty, floor-used, floor-left}
 use Rattle.pieces.specs.declared.state.Counted.{Counted}
 use Rattle.pieces.specs.State.{frontSize}
 use Rattle.pieces.specs.Pieces.{Kept}

@@ -19,12 +19,12 @@ use Rattle.de9im.proofs.LawsBool.{told}
 use Rattle.frame.specs.Rules.{short}
 use Rattle.frame.specs.Words.{byteAt, promised}
 use Rattle.frame.proofs.LawsFront.{front-promised}
-use Rattle.plan.specs.declared.floor.FloorAnswer.{FloorAnswer}
-use Rattle.plan.specs.Floor.{stoppedAs, behind, floorOf}
+use Rattle.floors.specs.declared.floor.FloorAnswer.{FloorAnswer}
+use Rattle.floors.specs.Floor.{stoppedAs, behind, floorOf}
 use Rattle.plan.specs.Record.{recordOf}
 use Rattle.plan.proofs.LawsAfter.{spent, later-bytes}
-use Rattle.plan.proofs.LawsFloor.{floor-empty, floor-refused, floor-accepted, floor-used, floor-more, floor-part, floor-left}
-use Rattle.plan.proofs.LawsLong.{Long, RefusedAlike, long-alike}
+use Rattle.floors.proofs.LawsFloor.{floor-empty, floor-refused, floor-accepted, floor-used, floor-more, floor-part, floor-left}
+use Rattle.floors.proofs.LawsLong.{Long, RefusedAlike, long-alike}
 use Rattle.plan.proofs.LawsPart.{short-answer}
 use Rattle.pieces.specs.State.{frontSize}
 use Rattle.pieces.specs.Inner.Joining.{cutDown, stopAt}

@@ -14,9 +14,9 @@ use Rattle.de9im.specs.declared.refusal.Refusal.the-variants.{Short}
 use Rattle.de9im.specs.declared.refusal.Refusal.the-variants as R
 use Rattle.de9im.specs.Refused.{numberOf}
 use Rattle.frame.specs.Rules.{short}
-use Rattle.plan.specs.declared.floor.FloorAnswer.{FloorAnswer}
-use Rattle.plan.specs.Floor.{behind, floorOf}
-use Rattle.plan.proofs.LawsFloor.{floor-used, floor-all, floor-records, floor-more, floor-left, floor-settled}
+use Rattle.floors.specs.declared.floor.FloorAnswer.{FloorAnswer}
+use Rattle.floors.specs.Floor.{behind, floorOf}
+use Rattle.floors.proofs.LawsFloor.{floor-used, floor-all, floor-records, floor-more, floor-left, floor-settled}
 use Rattle.pieces.specs.declared.state.Counted.{Counted}
 use Rattle.pieces.specs.Pieces.{countedAs, Kept, HoldsIn}
 use Rattle.pieces.specs.Inner.Joining.{added, Fed}

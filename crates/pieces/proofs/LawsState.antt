@@ -11,8 +11,8 @@ use Rattle.de9im.specs.Answers.{checkedNo, checkedPlace}
 use Rattle.de9im.specs.Text.{nine}
 use Rattle.de9im.proofs.LawsForms.{nine-spelled}
 use Rattle.frame.specs.Words.{byteAt}
-use Rattle.plan.specs.declared.floor.FloorAnswer.{FloorAnswer}
-use Rattle.plan.specs.Floor.{floorOf}
+use Rattle.floors.specs.declared.floor.FloorAnswer.{FloorAnswer}
+use Rattle.floors.specs.Floor.{floorOf}
 use Rattle.pieces.specs.declared.state.Counted.{Counted}
 use Rattle.pieces.specs.Pieces.{HoldsIn, Holds}
 use Rattle.pieces.specs.State.{frontSize, headSize, stateSize, wordAt, countedIn, heldIn}

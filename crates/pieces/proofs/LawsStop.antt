@@ -17,9 +17,9 @@ use Rattle.de9im.specs.Answers.{checkedNo, checkedPlace, answerPlace}
 use Rattle.de9im.specs.Refused.{numberOf, placeOf}
 use Rattle.de9im.proofs.LawsApart.{true-false, nowhere-at}
 use Rattle.de9im.proofs.LawsRefused.{numbered, some-number}
-use Rattle.plan.specs.declared.floor.FloorAnswer.{FloorAnswer}
-use Rattle.plan.specs.Floor.{floorOf}
-use Rattle.plan.proofs.LawsFloor.{floor-stands}
+use Rattle.floors.specs.declared.floor.FloorAnswer.{FloorAnswer}
+use Rattle.floors.specs.Floor.{floorOf}
+use Rattle.floors.proofs.LawsFloor.{floor-stands}
 use Rattle.plan.proofs.LawsSmall.{record-small}
 use Rattle.pieces.specs.Stops.{rows, refusalOf, stopOf}
 

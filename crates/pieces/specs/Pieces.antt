@@ -6,8 +6,8 @@ use mathlib.Core.List.{List}
 use lib.ListN.{length, take, drop}
 use Rattle.de9im.specs.declared.answer.Checked.the-variants.{Refused}
 use Rattle.de9im.specs.declared.refusal.Refusal.the-variants.{Short}
-use Rattle.plan.specs.declared.floor.FloorAnswer.{FloorAnswer}
-use Rattle.plan.specs.Floor.{floorOf}
+use Rattle.floors.specs.declared.floor.FloorAnswer.{FloorAnswer}
+use Rattle.floors.specs.Floor.{floorOf}
 use Rattle.pieces.specs.declared.state.Counted.{Counted}
 use Rattle.pieces.specs.State.{frontSize, countedIn, heldIn}
 

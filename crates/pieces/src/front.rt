@@ -2,12 +2,12 @@
 // is to tell: a record that has come whole and is longer is refused by its front alone.
 use de9im::answer::Checked;
 use de9im::cells::Cells;
-use plan::floor::floor;
+use floors::floor::floor;
 ghost use mathlib.Core.Path.{_≡_};
 ghost use mathlib.Core.List.{_++_};
 ghost use Prim.Native.Nat.{_+_, _≤_, min};
 ghost use lib.ListN.{length, take};
-ghost use Rattle.plan.specs.Floor.{floorOf};
+ghost use Rattle.floors.specs.Floor.{floorOf};
 ghost use Rattle.pieces.specs.State.{frontSize};
 ghost use Rattle.pieces.specs.Inner.Joining.{cutDown};
 

@@ -10,14 +10,14 @@ use crate::state::read_state;
 use de9im::answer::Checked;
 use de9im::cells::Cells;
 use de9im::refusal::number;
-use plan::floor::FloorAnswer;
+use floors::floor::FloorAnswer;
 ghost use mathlib.Core.Path.{_≡_};
 ghost use mathlib.Core.List.{List, [], _++_};
 ghost use Prim.Native.Nat.{ℕ};
 ghost use lib.ListN.{length};
 ghost use Rattle.de9im.specs.declared.refusal.Spot.the-variants.{Nowhere};
 ghost use Rattle.de9im.specs.Answers.{checkedPlace};
-ghost use Rattle.plan.specs.Floor.{floorOf};
+ghost use Rattle.floors.specs.Floor.{floorOf};
 ghost use Rattle.pieces.specs.Pieces.{countedAs, HoldsIn, Holds};
 ghost use Rattle.pieces.specs.State.{frontSize, stateSize};
 

@@ -2,8 +2,8 @@
 // bytes of a record that has not come whole. Any bytes are taken; what is promised is promised of a state that this crate made.
 use crate::stop::stop_number;
 use crate::stop::stop_of;
+use floors::floor::FloorAnswer;
 use frame::words::wide;
-use plan::floor::FloorAnswer;
 ghost use mathlib.Core.Path.{_≡_};
 ghost use Prim.Native.Nat.{_+_, _≤_, _<_};
 ghost use lib.ListN.{length};

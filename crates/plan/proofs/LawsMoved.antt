@@ -4,8 +4,8 @@ use mathlib.Core.Path.{_≡_, refl}
 use mathlib.Core.List.{List}
 use native.Mathlib.Omega.{arith}
 use Rattle.frame.specs.Words.{byteAt}
-use Rattle.plan.specs.EndBytes.{dirAt, endAt, readEnds}
-use Rattle.plan.specs.LabelBytes.{sidesAt, labelAt}
+use Rattle.decoder.specs.EndBytes.{dirAt, endAt, readEnds}
+use Rattle.decoder.specs.LabelBytes.{sidesAt, labelAt}
 use Rattle.plan.specs.Said.{nodeAt}
 
 -- n bytes of s from a on are those of t from b on

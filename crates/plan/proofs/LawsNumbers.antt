@@ -23,13 +23,13 @@ use Rattle.de9im.specs.declared.refusal.Refusal.the-variants.{
 use Rattle.de9im.specs.Answers.{answerNo, usedOf}
 use Rattle.ends.specs.declared.«edge_end».EdgeEnd.{EdgeEnd}
 use Rattle.star.specs.declared.pouring.Node.{Node}
-use Rattle.star.specs.Completing.{missingLeft}
+use Rattle.walks.specs.Completing.{missingLeft}
 use Rattle.ends.specs.Ends.{badDir}
 use Rattle.ends.specs.Star.{joinedOf}
-use Rattle.plan.specs.EndBytes.{dirAt, endAt, readEnds}
-use Rattle.plan.specs.EndBytes.{Ends as ReadEnds}
-use Rattle.plan.specs.Inner.Reading.{goodThree, bareThree, labelFault, labelRead, goodNode, nodeFault, nodeRead}
-use Rattle.plan.specs.LabelBytes.{labelAt}
+use Rattle.decoder.specs.EndBytes.{dirAt, endAt, readEnds}
+use Rattle.decoder.specs.EndBytes.{Ends as ReadEnds}
+use Rattle.decoder.specs.Inner.Reading.{goodThree, bareThree, labelFault, labelRead, goodNode, nodeFault, nodeRead}
+use Rattle.decoder.specs.LabelBytes.{labelAt}
 use Rattle.plan.specs.Numbers.{
   badCodes,
   hasSide,
@@ -47,7 +47,7 @@ use Rattle.plan.specs.Record.{pouredBy, recordOf}
 use Rattle.frame.specs.Rules.{Rule, _gives_, firstNo}
 use Rattle.plan.specs.Said.{Form, Said, edge, node, isVersion, formOf, edgeOf, nodeAt, withEnds, nodeBody, nodeOf, saidOf}
 use Rattle.frame.specs.Words.{byteAt, promised}
-use Rattle.plan.proofs.LawsReading.{label-reading, node-reading}
+use Rattle.decoder.proofs.LawsReading.{label-reading, node-reading}
 use Rattle.de9im.proofs.LawsRefused.{some-number}
 use Rattle.frame.proofs.LawsRules.{noOr, checkedOr, check-no, two-checks, checked-no}
 

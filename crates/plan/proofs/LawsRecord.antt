@@ -21,18 +21,18 @@ use Rattle.ends.specs.declared.«edge_end».EdgeEnd.{EdgeEnd}
 use Rattle.star.specs.declared.pouring.Node.{Node}
 use Rattle.ends.specs.declared.«topology_position».Sides.{Sides}
 use Rattle.star.specs.Calls.{completedStar, pouredStar}
-use Rattle.star.specs.Completing.{missingLeft}
+use Rattle.walks.specs.Completing.{missingLeft}
 use Rattle.ends.specs.Count.{mostEnds}
 use Rattle.ends.specs.Ends.{badDir, lineWithSide, faultOf, firstFault, checkedOf}
 use Rattle.ends.specs.Star.{joinedOf}
-use Rattle.plan.specs.EndBytes.{Ends, dirAt, endAt, readEnds, endsCall}
-use Rattle.plan.specs.LabelBytes.{labelOf, sidesAt, labelAt}
+use Rattle.decoder.specs.EndBytes.{Ends, dirAt, endAt, readEnds, endsCall}
+use Rattle.decoder.specs.LabelBytes.{labelOf, sidesAt, labelAt}
 use Rattle.frame.specs.Read.{Read, good, bad, _>>=_, noneUsed}
 use Rattle.plan.specs.Record.{pouredBy}
 use Rattle.plan.specs.Said.{withEnds, nodeBody}
-use Rattle.plan.specs.Inner.Reading.{nodeFault, nodeRead}
-use Rattle.plan.proofs.LawsEnds.{read-length, call-read}
-use Rattle.plan.proofs.LawsReading.{node-reading}
+use Rattle.decoder.specs.Inner.Reading.{nodeFault, nodeRead}
+use Rattle.decoder.proofs.LawsEnds.{read-length, call-read}
+use Rattle.decoder.proofs.LawsReading.{node-reading}
 use Rattle.frame.specs.Words.{byteAt}
 use Rattle.frame.proofs.LawsRead.{bad-good}
 

@@ -17,12 +17,12 @@ use Rattle.ends.specs.declared.label.Label.{Label}
 use Rattle.ends.specs.declared.«edge_end».EdgeEnd.{EdgeEnd}
 use Rattle.star.specs.declared.pouring.Node.{Node}
 use Rattle.star.specs.Calls.{completedStar, pouredStar}
-use Rattle.star.specs.Completing.{missingLeft, completedOf}
-use Rattle.star.specs.Pouring.{pourNode, pourLabels}
+use Rattle.walks.specs.Completing.{missingLeft, completedOf}
+use Rattle.walks.specs.Pouring.{pourNode, pourLabels}
 use Rattle.ends.specs.Star.{joinedOf}
-use Rattle.plan.specs.EndBytes.{readEnds}
-use Rattle.plan.specs.EndBytes.{Ends as ReadEnds}
-use Rattle.plan.specs.LabelBytes.{labelAt}
+use Rattle.decoder.specs.EndBytes.{readEnds}
+use Rattle.decoder.specs.EndBytes.{Ends as ReadEnds}
+use Rattle.decoder.specs.LabelBytes.{labelAt}
 use Rattle.frame.specs.Read.{Read, good, bad, _>>=_}
 use Rattle.plan.specs.Record.{pourSaid, pouredBy, recordOf}
 use Rattle.plan.specs.Said.{Form, Said, edge, node, isVersion, formOf, edgeOf, nodeAt, withEnds, nodeBody, nodeOf, byKind, saidOf}

@@ -19,13 +19,13 @@ use Rattle.de9im.specs.declared.refusal.Spot.the-variants.{Nowhere}
 use Rattle.de9im.specs.Answers.{answerPlace, usedOf}
 use Rattle.de9im.specs.Position.{codedOf}
 use Rattle.de9im.specs.Refused.{placeOf}
-use Rattle.star.specs.Completing.{missingLeft}
+use Rattle.walks.specs.Completing.{missingLeft}
 use Rattle.ends.specs.Count.{mostEnds}
 use Rattle.ends.specs.Ends.{badDir, lineWithSide}
 use Rattle.ends.specs.Label.{isNone}
 use Rattle.ends.specs.Star.{joinedOf}
-use Rattle.plan.specs.EndBytes.{dirAt, endAt, readEnds, endsCall}
-use Rattle.plan.specs.LabelBytes.{codeRead, labelOf, sidesAt, labelAt}
+use Rattle.decoder.specs.EndBytes.{dirAt, endAt, readEnds, endsCall}
+use Rattle.decoder.specs.LabelBytes.{codeRead, labelOf, sidesAt, labelAt}
 use Rattle.frame.specs.Read.{Read, good, bad, _>>=_}
 use Rattle.plan.specs.Record.{pouredBy, recordOf}
 use Rattle.plan.specs.Said.{Form, Said, isVersion, formOf, edgeOf, nodeAt, nodeBody, nodeOf, saidOf}

@@ -7,10 +7,10 @@ use Prim.Native.Nat.{ℕ, zero, suc, _+_, _*_}
 use mathlib.Core.Bool.{Bool, false, cond, not, _&&_, _||_}
 use mathlib.Core.List.{List, [], _∷_, _++_}
 use lib.Dec.{eqb, ltb}
-use Rattle.star.specs.Completing.{missingLeft}
+use Rattle.walks.specs.Completing.{missingLeft}
 use Rattle.ends.specs.Ends.{badDir}
 use Rattle.ends.specs.Star.{joinedOf}
-use Rattle.plan.specs.EndBytes.{Ends, dirAt, readEnds}
+use Rattle.decoder.specs.EndBytes.{Ends, dirAt, readEnds}
 use Rattle.plan.specs.Said.{Form, isVersion, formOf}
 use Rattle.frame.specs.Read.{good, bad}
 use Rattle.frame.specs.Rules.{Rule, _gives_, firstNo, short}

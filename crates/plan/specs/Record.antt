@@ -7,7 +7,7 @@ use Rattle.de9im.specs.declared.answer.BytesAnswer.{BytesAnswer}
 use Rattle.de9im.specs.declared.refusal.Refusal.{Refusal}
 use Rattle.de9im.specs.Cells.{cellsOf, matrixOf}
 use Rattle.star.specs.Calls.{pouredStar}
-use Rattle.star.specs.Pouring.{pourLabel}
+use Rattle.walks.specs.Pouring.{pourLabel}
 use Rattle.frame.specs.Read.{Read, good, bad}
 use Rattle.plan.specs.Said.{Said, edge, node, saidOf}
 use Rattle.frame.specs.Words.{promised}

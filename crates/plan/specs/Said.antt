@@ -10,15 +10,15 @@ use mathlib.Core.Bool.{Bool, cond, not, _||_}
 use mathlib.Core.List.{List}
 use lib.Dec.{ltb, eqb}
 use lib.ListN.{length}
-use Rattle.de9im.specs.declared.refusal.Refusal.the-variants.{Short, Version, Kind, Length, Ends, PositionCode, MissingLeft}
+use Rattle.de9im.specs.declared.refusal.Refusal.the-variants.{Short, Version, Kind, Length, Ends, MissingLeft}
 use Rattle.ends.specs.declared.label.Label.{Label}
 use Rattle.ends.specs.declared.«edge_end».EdgeEnd.{EdgeEnd}
 use Rattle.star.specs.declared.pouring.Node.{Node}
-use Rattle.star.specs.Completing.{missingLeft}
-use Rattle.ends.specs.Label.{isNone}
+use Rattle.walks.specs.Completing.{missingLeft}
 use Rattle.ends.specs.Star.{joinedOf}
-use Rattle.plan.specs.EndBytes.{readEnds}
-use Rattle.plan.specs.LabelBytes.{codeAt, labelAt}
+use Rattle.decoder.specs.EndBytes.{readEnds}
+use Rattle.decoder.specs.LabelBytes.{labelAt}
+unfoldable pub use Rattle.decoder.specs.NodeBytes.{nodeAt}
 use Rattle.frame.specs.Read.{Read, good, bad, _refuses_, _>>_, _>>=_}
 use Rattle.frame.specs.Words.{byteAt, twoBytesAt, promised}
 
@@ -51,16 +51,6 @@ edgeOf s = do
   not (eqb (promised s) 9) refuses Length
   l ← labelAt s 4
   good (edge l)
-
--- kind 1: four position codes; a node position is not none
-unfoldable pub nodeAt : List ℕ → Read Node
-nodeAt s = do
-  a ← codeAt s 4
-  b ← codeAt s 5
-  p ← codeAt s 6
-  q ← codeAt s 7
-  (isNone a || isNone b) refuses PositionCode
-  good (record { «on_a» = a; «on_b» = b; «area_a» = p; «area_b» = q })
 
 abbrev pub withEnds : Node → List EdgeEnd → Read Said
 withEnds n es = do

@@ -3,9 +3,9 @@ use crate::case::Head;
 use crate::case::eight;
 use crate::case::least;
 use crate::matrix_calls::same_nine;
-use misonkandi::floors::misonkandi_finish;
-use misonkandi::floors::misonkandi_push;
-use misonkandi::floors::misonkandi_start;
+use misonkandi::whole_floors::misonkandi_finish;
+use misonkandi::whole_floors::misonkandi_push;
+use misonkandi::whole_floors::misonkandi_start;
 use pieces::state::STATE;
 
 // Due are nine cells, the bytes used and the records accepted.
@@ -19,7 +19,7 @@ fn same_floor(cells: [u8; 9], answer: [u64; 2], due: &[u8]) -> bool {
 pub(crate) fn floor(h: Head, bytes: &[u8], due: &[u8]) -> bool {
     let mut cells = h.cells;
     let mut answer = [9u64; 2];
-    let word = misonkandi::floors::misonkandi_floor(&mut cells, bytes, &mut answer);
+    let word = misonkandi::whole_floors::misonkandi_floor(&mut cells, bytes, &mut answer);
     (word == h.word) & same_floor(cells, answer, due)
 }
 

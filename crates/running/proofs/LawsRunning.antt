@@ -11,8 +11,8 @@ use Rattle.de9im.specs.Matrix.{Matrix, Shaped, setOf, atLeastOf}
 use Rattle.de9im.proofs.LawsDimension.{dim-back}
 use Rattle.de9im.proofs.LawsForms.{matrix-back, matrix-shaped}
 use Rattle.ends.specs.declared.label.Label.{Label}
-use Rattle.star.specs.Pouring.{pourLabel}
-use Rattle.star.proofs.LawsPouring.{raise-shape, label-shape}
+use Rattle.walks.specs.Pouring.{pourLabel}
+use Rattle.walks.proofs.LawsPouring.{raise-shape, label-shape}
 use Rattle.de9im.specs.declared.answer.Answer.the-variants.{Refused}
 use Rattle.plan.proofs.LawsSaid.{hands-back}
 use Rattle.running.specs.declared.kept.Running.{Running}

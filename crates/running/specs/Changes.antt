@@ -4,7 +4,7 @@ use Prim.Native.Nat.{ℕ}
 use mathlib.Core.List.{List}
 use Rattle.de9im.specs.Matrix.{setOf, atLeastOf}
 use Rattle.ends.specs.declared.label.Label.{Label}
-use Rattle.star.specs.Pouring.{pourLabel}
+use Rattle.walks.specs.Pouring.{pourLabel}
 use Rattle.plan.specs.Record.{recordOf}
 use Rattle.running.specs.declared.kept.Running.{Running}
 use Rattle.running.specs.declared.«by_value».Change.{Change}

@@ -15,21 +15,21 @@ use Rattle.ends.specs.Star.{joinedOf}
 use Rattle.ends.proofs.LawsOrder.{All}
 use Rattle.bundles.specs.Shown.{shownWord, Bundles}
 use Rattle.star.specs.declared.pouring.Node.{Node}
-use Rattle.star.specs.declared.walk.Walked.{Walked}
-use Rattle.star.specs.Inner.Walking.{Current}
+use Rattle.walks.specs.declared.walk.Walked.{Walked}
+use Rattle.walks.specs.Inner.Walking.{Current}
 use Rattle.star.specs.Calls.{refusedStar, completedStar, starOf, pouredStar}
-use Rattle.star.specs.Completing.{missingLeft, completedOf}
-use Rattle.star.specs.Inner.Places.{currentPlace, labelsFrom}
-use Rattle.star.specs.Inner.Raised.{nodeRaised, pouredCells}
-use Rattle.star.specs.Inner.Starts.{startsOf, missesLeft, startPlace}
-use Rattle.star.specs.Inner.Walked.{walkWord}
-use Rattle.star.specs.Inner.Walking.{after, completeWalk, lookedOf, startsFrom}
-use Rattle.star.proofs.LawsPlaced.{labels-completed}
-use Rattle.star.proofs.LawsComplete.{completed-walk}
+use Rattle.walks.specs.Completing.{missingLeft, completedOf}
+use Rattle.walks.specs.Inner.Places.{currentPlace, labelsFrom}
+use Rattle.walks.specs.Inner.Raised.{nodeRaised, pouredCells}
+use Rattle.walks.specs.Inner.Starts.{startsOf, missesLeft, startPlace}
+use Rattle.walks.specs.Inner.Walked.{walkWord}
+use Rattle.walks.specs.Inner.Walking.{after, completeWalk, lookedOf, startsFrom}
+use Rattle.walks.proofs.LawsPlaced.{labels-completed}
+use Rattle.walks.proofs.LawsComplete.{completed-walk}
 use Rattle.star.proofs.LawsFew.{completed-length}
-use Rattle.star.proofs.LawsPlain.{Plain, joined-plain}
-use Rattle.star.proofs.LawsStarts.{starts-found, starts-missing, starts-from}
-use Rattle.star.proofs.LawsWalked.{walkedTo, star-poured}
+use Rattle.walks.proofs.LawsPlain.{Plain, joined-plain}
+use Rattle.walks.proofs.LawsStarts.{starts-found, starts-missing, starts-from}
+use Rattle.walks.proofs.LawsWalked.{walkedTo, star-poured}
 
 module _ (es : List EdgeEnd) (ws : List ℕ) (b : Bundles es ws) where
   pub words-plain : All Plain (map shownWord ws)

@@ -20,9 +20,9 @@ use Rattle.ends.specs.Label.{blank}
 use Rattle.ends.specs.Direction.{orderOf}
 use Rattle.ends.specs.Star.{putBy, insertDir, dirsFrom, dirsOf, bundleAt, bundlesOf, joinedOf}
 use Rattle.ends.specs.Bundle.{joinOf}
-use Rattle.star.specs.Completing.{missingLeft, walkedOf, filledOf, completedOf}
+use Rattle.walks.specs.Completing.{missingLeft, walkedOf, filledOf, completedOf}
 use Rattle.star.specs.Calls.{completedStar, starOf}
-use Rattle.star.proofs.LawsStar.{walked-length}
+use Rattle.walks.proofs.LawsStar.{walked-length}
 
 put-length : (o : Order) (d x : Dir) (xs r : List Dir) → length r ≤ suc (length xs) → length (putBy o d x xs r) ≤ suc (length (x ∷ xs))
 put-length Before d x xs r h = omega arith

@@ -22,7 +22,7 @@ use Rattle.star.specs.declared.pouring.Node.{Node}
 use Rattle.star.specs.Answers.{bundledNo, bundledPlace, labeledNo, labeledPlace, orNo, endNo, endsNo, bundleNo, leftNo, starNo}
 use Rattle.ends.specs.Bundle.{joinOf}
 use Rattle.star.specs.Calls.{bundledAs, bundledOf, refusedStar, completedStar, starOf, starAs, starCall, pouredAs, pouredStar}
-use Rattle.star.specs.Completing.{missingLeft, completedOf}
+use Rattle.walks.specs.Completing.{missingLeft, completedOf}
 use Rattle.ends.specs.Count.{mostEnds}
 use Rattle.ends.specs.Ends.{badDir, lineWithSide, faultOf, orFault, firstFault, checkedOf}
 use Rattle.ends.specs.Label.{padded}

@@ -17,7 +17,7 @@ use Rattle.ends.specs.declared.«edge_end».EdgeEnd.{EdgeEnd}
 use Rattle.star.specs.declared.«edge_end_bundle».Bundled.{Bundled}
 use Rattle.star.specs.declared.«edge_end_bundle».Bundled.the-variants.{Joined, Refused}
 use Rattle.star.specs.declared.«edge_end_bundle_star».Labeled.{Labeled}
-use Rattle.star.specs.Completing.{missingLeft}
+use Rattle.walks.specs.Completing.{missingLeft}
 use Rattle.ends.specs.Count.{mostEnds}
 use Rattle.ends.specs.Ends.{badDir, lineWithSide}
 use Rattle.ends.specs.Label.{blank}

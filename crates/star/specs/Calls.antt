@@ -18,9 +18,9 @@ use Rattle.star.specs.declared.«edge_end_bundle_star».Labeled.{Labeled
 use Rattle.star.specs.declared.pouring.Node.{Node}
 use Rattle.de9im.specs.declared.answer.CellsAnswer.{CellsAnswer}
 use Rattle.de9im.specs.Cells.{cellsOf, matrixOf}
-use Rattle.star.specs.Pouring.{pourNode, pourLabels}
+use Rattle.walks.specs.Pouring.{pourNode, pourLabels}
 use Rattle.ends.specs.Bundle.{joinOf}
-use Rattle.star.specs.Completing.{missingLeft, completedOf}
+use Rattle.walks.specs.Completing.{missingLeft, completedOf}
 use Rattle.ends.specs.Ends.{checkedOf}
 use Rattle.ends.specs.Label.{padded}
 use Rattle.ends.specs.Star.{joinedOf}

@@ -1,8 +1,4 @@
 // A star: the bundles around a node in counterclockwise order, completed for A and for B.
-use crate::places::complete_word;
-use crate::places::label_of;
-use crate::start;
-use crate::start::start_place;
 use bundles::bundles;
 use bundles::columns::put_end;
 use bundles::marks::mark_of;
@@ -14,6 +10,10 @@ use ends::edge_end::MOST_ENDS;
 use ends::edge_end::check;
 use ends::label::Label;
 use ends::label::blank;
+use walks::places::complete_word;
+use walks::places::label_of;
+use walks::start;
+use walks::start::start_place;
 ghost use mathlib.Core.Path.{_≡_};
 ghost use mathlib.Core.List.{List};
 ghost use Prim.Native.Nat.{_≤_};
@@ -25,7 +25,7 @@ ghost use Rattle.ends.specs.Label.{padded};
 ghost use Rattle.bundles.specs.Columns.{Columns};
 ghost use Rattle.bundles.specs.Shown.{Bundles};
 ghost use Rattle.star.specs.Calls.{unlabeled, starOf, starCall};
-ghost use Rattle.star.specs.Inner.Places.{labelsFrom};
+ghost use Rattle.walks.specs.Inner.Places.{labelsFrom};
 ghost use Rattle.star.specs.Inner.Started.{startedStar};
 
 // The answer to a star, with its completed labels in order beside it: blanks past the count.

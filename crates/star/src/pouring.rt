@@ -1,13 +1,4 @@
 // Pouring: what a node and what the labels around it raise in the matrix. A none skips its cell.
-use crate::places::label_places;
-use crate::raised::Raised;
-use crate::raised::node_raised;
-use crate::raised::pour;
-use crate::raised::raise;
-use crate::start;
-use crate::start::start_place;
-use crate::walk::Walked;
-use crate::walk::walk;
 use de9im::answer::CellsAnswer;
 use de9im::answer::Checked;
 use de9im::cells::Cells;
@@ -19,6 +10,15 @@ use de9im::refusal::Refusal;
 use ends::label::Label;
 use ends::topology_position::Side;
 use ends::topology_position::position;
+use walks::places::label_places;
+use walks::raised::Raised;
+use walks::raised::node_raised;
+use walks::raised::pour;
+use walks::raised::raise;
+use walks::start;
+use walks::start::start_place;
+use walks::walk::Walked;
+use walks::walk::walk;
 ghost use mathlib.Core.Path.{_≡_};
 ghost use mathlib.Core.List.{List};
 ghost use Prim.Native.Nat.{_≤_};
@@ -27,7 +27,7 @@ ghost use Rattle.de9im.specs.Cells.{cellsOf, matrixOf};
 ghost use Rattle.ends.specs.declared.«edge_end».EdgeEnd.{EdgeEnd};
 ghost use Rattle.bundles.specs.Shown.{Bundles};
 ghost use Rattle.star.specs.Calls.{pouredStar};
-ghost use Rattle.star.specs.Pouring.{pourNode, pourSide, pourLabel};
+ghost use Rattle.walks.specs.Pouring.{pourNode, pourSide, pourLabel};
 
 // A node raises (on A, on B) to 0.
 pub fn pour_node(m: IntersectionMatrix, a: Position, b: Position) -> IntersectionMatrix

@@ -13,8 +13,8 @@ use Rattle.de9im.specs.declared.answer.Checked.{Checked}
 use Rattle.de9im.specs.declared.answer.Checked.the-variants.{Fine, Refused}
 use Rattle.de9im.specs.Refused.{numberOf}
 use Rattle.de9im.proofs.LawsApart.{impossible}
-use Rattle.plan.specs.declared.floor.FloorAnswer.{FloorAnswer}
-use Rattle.plan.specs.Floor.{floorOf}
+use Rattle.floors.specs.declared.floor.FloorAnswer.{FloorAnswer}
+use Rattle.floors.specs.Floor.{floorOf}
 use Rattle.stream.specs.declared.Outcome.{Outcome}
 use Rattle.stream.specs.declared.reading.Got.{Got}
 use Rattle.stream.specs.declared.reading.Got.the-variants as G

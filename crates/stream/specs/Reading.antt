@@ -16,8 +16,8 @@ use Rattle.de9im.specs.declared.refusal.Refusal.the-variants.{Short}
 use Rattle.de9im.specs.Bytes.{bytes}
 use Rattle.de9im.specs.Refused.{numberOf}
 use Rattle.de9im.specs.Text.{numbersOf}
-use Rattle.plan.specs.declared.floor.FloorAnswer.{FloorAnswer}
-use Rattle.plan.specs.Floor.{floorOf}
+use Rattle.floors.specs.declared.floor.FloorAnswer.{FloorAnswer}
+use Rattle.floors.specs.Floor.{floorOf}
 use Rattle.stream.specs.declared.Told.{Told}
 use Rattle.stream.specs.declared.Told.the-variants as T
 use Rattle.stream.specs.declared.Outcome.{Outcome}

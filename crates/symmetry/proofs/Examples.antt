@@ -31,10 +31,10 @@ use Rattle.ends.specs.Bundle.{count, joinOf, onJoined, sideJoined, halfJoined}
 use Rattle.ends.specs.Direction.{orderOf}
 use Rattle.ends.specs.Star.{insertDir, dirsFrom, keep}
 use Rattle.star.specs.Calls.{completedStar, pouredStar}
-use Rattle.star.specs.Completing.{any, missingLeft, startOf, walkFrom, walkOf, filledOf}
-use Rattle.star.specs.Pouring.{pourNode, pourLabel, pourLabels}
-use Rattle.plan.specs.EndBytes.{dirAt, endAt, readEnds}
-use Rattle.plan.specs.LabelBytes.{sidesAt, labelAt}
+use Rattle.walks.specs.Completing.{any, missingLeft, startOf, walkFrom, walkOf, filledOf}
+use Rattle.walks.specs.Pouring.{pourNode, pourLabel, pourLabels}
+use Rattle.decoder.specs.EndBytes.{dirAt, endAt, readEnds}
+use Rattle.decoder.specs.LabelBytes.{sidesAt, labelAt}
 use Rattle.plan.specs.Record.{recordOf}
 use Rattle.plan.specs.Said.{formOf, nodeAt, nodeBody, nodeOf, saidOf}
 use Rattle.traced.specs.Floor.{fedIn, floorIn}

@@ -16,9 +16,9 @@ use Rattle.ends.specs.Ends.{badDir, far}
 use Rattle.ends.specs.Every.{All, none, more, GoodEnd}
 use Rattle.frame.specs.Read.{Read, good, bad, _>>=_}
 use Rattle.frame.proofs.LawsRead.{bad-good, passed}
-use Rattle.plan.specs.EndBytes.{dirAt, endAt, readEnds}
-use Rattle.plan.specs.EndBytes.{Ends as ReadEnds}
-use Rattle.plan.specs.LabelBytes.{labelAt}
+use Rattle.decoder.specs.EndBytes.{dirAt, endAt, readEnds}
+use Rattle.decoder.specs.EndBytes.{Ends as ReadEnds}
+use Rattle.decoder.specs.LabelBytes.{labelAt}
 use Rattle.plan.proofs.LawsMoved.{Moved, ends-moved}
 use Rattle.symmetry.specs.Runs.{flat}
 use Rattle.symmetry.specs.Ends.{blocks}

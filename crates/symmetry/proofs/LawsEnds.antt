@@ -18,13 +18,13 @@ use Rattle.ends.specs.Star.{joinedOf}
 use Rattle.order.proofs.LawsPerm.{all-perm, perm-length}
 use Rattle.star.specs.declared.pouring.Node.{Node}
 use Rattle.star.specs.Calls.{pouredStar}
-use Rattle.star.specs.Completing.{missingLeft}
+use Rattle.walks.specs.Completing.{missingLeft}
 use Rattle.frame.specs.Read.{Read, good, bad, _>>=_}
 use Rattle.frame.specs.Words.{byteAt, promised}
 use Rattle.frame.proofs.LawsFront.{Alike}
 use Rattle.frame.proofs.LawsRead.{bad-good, passed}
-use Rattle.plan.specs.EndBytes.{readEnds}
-use Rattle.plan.specs.EndBytes.{Ends as ReadEnds}
+use Rattle.decoder.specs.EndBytes.{readEnds}
+use Rattle.decoder.specs.EndBytes.{Ends as ReadEnds}
 use Rattle.plan.specs.Record.{pouredBy, recordOf}
 use Rattle.plan.specs.Said.{Form, Said, node, nodeAt, withEnds as saidWith, nodeBody, nodeOf, saidOf}
 use Rattle.plan.proofs.LawsForm.{form-fits}

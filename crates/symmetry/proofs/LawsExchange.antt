@@ -15,14 +15,14 @@ use Rattle.de9im.specs.declared.answer.BytesAnswer.{BytesAnswer}
 use Rattle.de9im.specs.declared.answer.Checked.the-variants.{Refused}
 use Rattle.de9im.specs.Cells.{cellsOf, matrixOf}
 use Rattle.de9im.specs.Matrix.{Matrix, transposedOf, startMatrix}
-use Rattle.star.proofs.LawsPouring.{numberIn}
+use Rattle.walks.proofs.LawsPouring.{numberIn}
 use Rattle.frame.specs.Read.{Read, good, bad}
 use Rattle.frame.specs.Words.{promised}
-use Rattle.plan.specs.Floor.{behind, floorOf}
+use Rattle.floors.specs.Floor.{behind, floorOf}
 use Rattle.plan.specs.Record.{pouredBy, recordOf}
 use Rattle.plan.specs.Said.{Said, saidOf}
 use Rattle.plan.proofs.LawsAfter.{spent, later-bytes, cut-out}
-use Rattle.plan.proofs.LawsFloor.{floor-empty, floor-refused, floor-accepted}
+use Rattle.floors.proofs.LawsFloor.{floor-empty, floor-refused, floor-accepted}
 use Rattle.plan.proofs.LawsSaid.{is-whole}
 use Rattle.symmetry.specs.Runs.{flat, cut, recordsOf}
 use Rattle.symmetry.specs.Exchange.{otherRecord, otherRun, flipped, flippedFloor}

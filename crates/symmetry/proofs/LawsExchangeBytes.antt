@@ -30,13 +30,13 @@ use Rattle.ends.specs.Ends.{badDir, lineWithSide}
 use Rattle.ends.specs.Label.{isNone, sidesNone}
 use Rattle.ends.specs.Star.{joinedOf}
 use Rattle.star.specs.declared.pouring.Node.{Node}
-use Rattle.star.specs.Completing.{missingLeft}
+use Rattle.walks.specs.Completing.{missingLeft}
 use Rattle.frame.specs.Read.{Read, good, bad, _>>=_}
 use Rattle.frame.specs.Words.{byteAt, promised}
 use Rattle.frame.proofs.LawsRead.{bad-good}
-use Rattle.plan.specs.EndBytes.{dirAt, endAt, readEnds}
-use Rattle.plan.specs.EndBytes.{Ends as ReadEnds}
-use Rattle.plan.specs.LabelBytes.{codeRead, sidesAt, labelOf, labelAt}
+use Rattle.decoder.specs.EndBytes.{dirAt, endAt, readEnds}
+use Rattle.decoder.specs.EndBytes.{Ends as ReadEnds}
+use Rattle.decoder.specs.LabelBytes.{codeRead, sidesAt, labelOf, labelAt}
 use Rattle.plan.specs.Said.{Form, edge, node, isVersion, formOf, edgeOf, nodeAt, withEnds, nodeBody, nodeOf, byKind, saidOf}
 use Rattle.plan.proofs.LawsForm.{Fits, form-fits}
 use Rattle.symmetry.specs.Ends.{formIn}

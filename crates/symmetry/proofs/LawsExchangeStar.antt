@@ -22,7 +22,7 @@ use Rattle.ends.specs.Direction.{sameDir}
 use Rattle.ends.specs.Label.{isNone}
 use Rattle.ends.specs.Star.{insertDir, dirsFrom, dirsOf, keep, bundleAt, joinedOf}
 use Rattle.star.specs.declared.pouring.Node.{Node}
-use Rattle.star.specs.Completing.{
+use Rattle.walks.specs.Completing.{
   startOf,
   walkNext,
   walkFrom,
@@ -40,7 +40,7 @@ use Rattle.star.specs.Completing.{
   filledOf,
   completedOf,
 }
-use Rattle.star.specs.Pouring.{into, labelInto, labelsInto}
+use Rattle.walks.specs.Pouring.{into, labelInto, labelsInto}
 use Rattle.plan.specs.Said.{Said, edge, node}
 use Rattle.symmetry.proofs.LawsPoured.{saidInto}
 

@@ -14,13 +14,13 @@ use Rattle.de9im.proofs.LawsPatterns.{cells-at}
 use Rattle.ends.specs.declared.label.Label.{Label}
 use Rattle.ends.specs.Star.{joinedOf}
 use Rattle.star.specs.declared.pouring.Node.{Node}
-use Rattle.star.specs.Completing.{completedOf}
-use Rattle.star.specs.Pouring.{pourNode, pourLabel, pourLabels, into, labelInto, labelsInto}
-use Rattle.star.proofs.LawsPouring.{numberIn, raise-cell, raise-shape, label-cell, labels-cell}
+use Rattle.walks.specs.Completing.{completedOf}
+use Rattle.walks.specs.Pouring.{pourNode, pourLabel, pourLabels, into, labelInto, labelsInto}
+use Rattle.walks.proofs.LawsPouring.{numberIn, raise-cell, raise-shape, label-cell, labels-cell}
 use Rattle.frame.specs.Read.{good}
 use Rattle.plan.specs.Record.{pourSaid}
 use Rattle.plan.specs.Said.{Said, edge, node, saidOf}
-use Rattle.plan.proofs.LawsRun.{given-cell}
+use Rattle.floors.proofs.LawsRun.{given-cell}
 use Rattle.plan.proofs.LawsSaid.{has-lefts, poured-node}
 
 -- two matrices with the same numbers have the same nine numbers

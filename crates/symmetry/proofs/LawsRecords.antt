@@ -15,12 +15,12 @@ use Rattle.ends.specs.Every.{All, none, more}
 use Rattle.order.proofs.LawsPerm.{all-perm, perm-length}
 use Rattle.frame.specs.Read.{good}
 use Rattle.frame.specs.Words.{promised}
-use Rattle.plan.specs.declared.floor.FloorAnswer.{FloorAnswer}
-use Rattle.plan.specs.Floor.{behind, floorOf}
+use Rattle.floors.specs.declared.floor.FloorAnswer.{FloorAnswer}
+use Rattle.floors.specs.Floor.{behind, floorOf}
 use Rattle.plan.specs.Record.{pourSaid, recordOf}
 use Rattle.plan.specs.Said.{Said, saidOf}
 use Rattle.plan.proofs.LawsAfter.{spent, cut-out}
-use Rattle.plan.proofs.LawsFloor.{floor-empty, floor-refused, floor-accepted, floor-then}
+use Rattle.floors.proofs.LawsFloor.{floor-empty, floor-refused, floor-accepted, floor-then}
 use Rattle.plan.proofs.LawsSaid.{says}
 use Rattle.traced.specs.Made.{afterAll}
 use Rattle.symmetry.specs.Runs.{flat, cut, recordsOf}

@@ -11,8 +11,8 @@ use Rattle.de9im.proofs.LawsBool.{and-right}
 use Rattle.de9im.proofs.LawsMatches.{fine-good}
 use Rattle.predicates.specs.declared.predicate.Predicate.{Predicate}
 use Rattle.frame.specs.Words.{byteAt, promised}
-use Rattle.plan.specs.declared.floor.FloorAnswer.{FloorAnswer}
-use Rattle.plan.specs.Floor.{floorOf}
+use Rattle.floors.specs.declared.floor.FloorAnswer.{FloorAnswer}
+use Rattle.floors.specs.Floor.{floorOf}
 use Rattle.verdict.specs.declared.Verdict.{Verdict}
 use Rattle.verdict.specs.declared.Verdict.the-variants.{YesForGood, NoForGood, Open}
 use Rattle.verdict.specs.declared.pattern.Judged.the-variants.{Is}

@@ -6,7 +6,7 @@ use mathlib.Core.List.{List, [], _∷_, _++_, map}
 use lib.Dec.{eqb}
 use lib.ListN.{take, drop, getD}
 use Rattle.frame.specs.Words.{byteAt}
-use Rattle.plan.specs.declared.floor.FloorAnswer.{FloorAnswer}
+use Rattle.floors.specs.declared.floor.FloorAnswer.{FloorAnswer}
 use Rattle.plan.specs.Said.{Form}
 use Rattle.symmetry.specs.Ends.{formIn}
 use Rattle.symmetry.specs.Runs.{flat, recordsOf}

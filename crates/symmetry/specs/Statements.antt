@@ -13,7 +13,7 @@ use Rattle.de9im.specs.Patterns.{checkOf, matchesOf}
 use Rattle.predicates.specs.declared.predicate.Predicate.{Predicate}
 use Rattle.predicates.specs.declared.predicate.Predicate.the-variants.{Touches, Crosses, Overlaps}
 use Rattle.predicates.specs.Predicates.{holds}
-use Rattle.plan.specs.Floor.{floorOf}
+use Rattle.floors.specs.Floor.{floorOf}
 use Rattle.plan.specs.Record.{recordOf}
 use Rattle.verdict.specs.declared.Verdict.{Verdict}
 use Rattle.verdict.specs.declared.pattern.Judged.the-variants.{Is}

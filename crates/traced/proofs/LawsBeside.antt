@@ -13,10 +13,10 @@ use Rattle.de9im.specs.declared.answer.Checked.the-variants.{Fine, Refused}
 use Rattle.de9im.specs.declared.refusal.Refusal.{Refusal}
 use Rattle.de9im.proofs.LawsApart.{fine-refused}
 use Rattle.de9im.proofs.LawsBool.{told}
-use Rattle.plan.specs.declared.floor.FloorAnswer.{FloorAnswer}
-use Rattle.plan.specs.Floor.{stoppedAs, behind, floorOf}
+use Rattle.floors.specs.declared.floor.FloorAnswer.{FloorAnswer}
+use Rattle.floors.specs.Floor.{stoppedAs, behind, floorOf}
 use Rattle.plan.specs.Record.{recordOf}
-use Rattle.plan.proofs.LawsFloor.{floor-empty, floor-accepted, every-floor, floor-one, floor-joined}
+use Rattle.floors.proofs.LawsFloor.{floor-empty, floor-accepted, every-floor, floor-one, floor-joined}
 use Rattle.traced.specs.declared.floor.TracedFloor.{TracedFloor}
 use Rattle.traced.specs.declared.kept.Traced.{Traced}
 use Rattle.traced.specs.declared.«record».TracedAnswer.{TracedAnswer}

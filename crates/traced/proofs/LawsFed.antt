@@ -12,7 +12,7 @@ use Rattle.de9im.specs.declared.answer.Answer.the-variants as A
 use Rattle.de9im.specs.declared.answer.Checked.{Checked}
 use Rattle.de9im.specs.declared.answer.Checked.the-variants.{Fine, Refused}
 use Rattle.de9im.specs.declared.refusal.Refusal.{Refusal}
-use Rattle.plan.proofs.LawsFloor.{some-used}
+use Rattle.floors.proofs.LawsFloor.{some-used}
 use Rattle.traced.specs.declared.floor.TracedFloor.{TracedFloor}
 use Rattle.traced.specs.declared.kept.Traced.{Traced}
 use Rattle.traced.specs.declared.«record».TracedAnswer.{TracedAnswer}

@@ -9,8 +9,8 @@ use borrow.Author.Tests.{leb-true}
 use lib.Dec.{leb}
 use Rattle.de9im.specs.declared.answer.Checked.the-variants.{Fine}
 use Rattle.de9im.specs.Text.{nineZeros}
-use Rattle.plan.specs.declared.floor.FloorAnswer.{FloorAnswer}
-use Rattle.plan.specs.Floor.{floorOf}
+use Rattle.floors.specs.declared.floor.FloorAnswer.{FloorAnswer}
+use Rattle.floors.specs.Floor.{floorOf}
 use Rattle.verdict.specs.declared.Verdict.{Verdict}
 use Rattle.verdict.specs.declared.Verdict.the-variants.{YesForGood, NoForGood, Open}
 use Rattle.verdict.specs.declared.pattern.Judged.{Judged}

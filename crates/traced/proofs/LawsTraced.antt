@@ -15,7 +15,7 @@ use Rattle.de9im.specs.declared.refusal.Refusal.{Refusal}
 use Rattle.de9im.specs.declared.refusal.Refusal.the-variants.{NoNumberLeft}
 use Rattle.de9im.proofs.LawsApart.{impossible}
 use Rattle.plan.specs.Record.{recordOf}
-use Rattle.plan.proofs.LawsRun.{record-rises}
+use Rattle.floors.proofs.LawsRun.{record-rises}
 use Rattle.plan.proofs.LawsSaid.{hands-back}
 use Rattle.traced.specs.declared.kept.Traced.{Traced}
 use Rattle.traced.specs.declared.«record».TracedAnswer.{TracedAnswer}

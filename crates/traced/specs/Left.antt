@@ -10,7 +10,7 @@ use mathlib.Core.List.{List}
 use lib.Dec.{leb}
 use Rattle.de9im.specs.declared.answer.Checked.the-variants as C
 use Rattle.de9im.specs.Patterns.{checkOf}
-use Rattle.plan.specs.declared.floor.FloorAnswer.{FloorAnswer}
+use Rattle.floors.specs.declared.floor.FloorAnswer.{FloorAnswer}
 use Rattle.verdict.specs.declared.Verdict.{Verdict}
 use Rattle.verdict.specs.declared.Verdict.the-variants.{YesForGood, NoForGood, Open}
 use Rattle.verdict.specs.declared.pattern.Judged.{Judged}

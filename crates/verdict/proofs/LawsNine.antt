@@ -22,14 +22,14 @@ use Rattle.de9im.proofs.LawsForms.{matrix-shaped, nine-cases}
 use Rattle.de9im.proofs.LawsMatches.{yes-each}
 use Rattle.de9im.proofs.LawsPatterns.{cells-at}
 use Rattle.ends.specs.declared.label.Label.{Label}
-use Rattle.star.specs.Pouring.{pourNode, pourLabel, pourLabels, into, labelInto, labelsInto}
-use Rattle.star.proofs.LawsPouring.{raise-cell, raise-shape, label-cell, labels-cell}
+use Rattle.walks.specs.Pouring.{pourNode, pourLabel, pourLabels, into, labelInto, labelsInto}
+use Rattle.walks.proofs.LawsPouring.{raise-cell, raise-shape, label-cell, labels-cell}
 use Rattle.star.specs.declared.pouring.Node.{Node}
-use Rattle.plan.specs.declared.floor.FloorAnswer.{FloorAnswer}
-use Rattle.plan.specs.Floor.{behind, floorOf}
+use Rattle.floors.specs.declared.floor.FloorAnswer.{FloorAnswer}
+use Rattle.floors.specs.Floor.{behind, floorOf}
 use Rattle.plan.specs.Record.{recordOf}
-use Rattle.plan.proofs.LawsFloor.{every-floor}
-use Rattle.plan.proofs.LawsRun.{Rises, given-cell, accepted-by, record-rises}
+use Rattle.floors.proofs.LawsFloor.{every-floor}
+use Rattle.floors.proofs.LawsRun.{Rises, given-cell, accepted-by, record-rises}
 use Rattle.verdict.specs.declared.Verdict.the-variants.{Open}
 use Rattle.verdict.specs.Means.{Means, matchOf}
 use Rattle.verdict.specs.Inner.Table.{every}

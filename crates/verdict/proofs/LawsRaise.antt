@@ -20,16 +20,16 @@ use Rattle.de9im.specs.Position.{known, rowOf, codedOf}
 use Rattle.de9im.proofs.LawsForms.{matrix-shaped}
 use Rattle.de9im.proofs.LawsPatterns.{cells-at}
 use Rattle.star.specs.Calls.{completedStar, pouredStar}
-use Rattle.star.specs.Completing.{any, missingLeft, startOf, walkOf, filledOf}
+use Rattle.walks.specs.Completing.{any, missingLeft, startOf, walkOf, filledOf}
 use Rattle.ends.specs.Label.{isNone}
-use Rattle.star.specs.Pouring.{pourNode, pourLabel, pourLabels, into}
+use Rattle.walks.specs.Pouring.{pourNode, pourLabel, pourLabels, into}
 use Rattle.ends.specs.Star.{dirsFrom}
-use Rattle.star.proofs.LawsPouring.{raise-cell}
-use Rattle.plan.specs.EndBytes.{readEnds}
-use Rattle.plan.specs.LabelBytes.{sidesAt, labelAt}
+use Rattle.walks.proofs.LawsPouring.{raise-cell}
+use Rattle.decoder.specs.EndBytes.{readEnds}
+use Rattle.decoder.specs.LabelBytes.{sidesAt, labelAt}
 use Rattle.plan.specs.Record.{recordOf}
 use Rattle.plan.specs.Said.{formOf, edgeOf, nodeAt, nodeBody, nodeOf, saidOf}
-use Rattle.plan.proofs.LawsRun.{given-cell}
+use Rattle.floors.proofs.LawsRun.{given-cell}
 use Rattle.verdict.specs.Means.{isBytes}
 
 -- a position's code

@@ -16,10 +16,10 @@ use Rattle.de9im.specs.Matrix.{Matrix}
 use Rattle.de9im.specs.Text.{nine}
 use Rattle.de9im.proofs.LawsDimension.{dim-back, number-back}
 use Rattle.de9im.proofs.LawsForms.{nine-at}
-use Rattle.plan.specs.declared.floor.FloorAnswer.{FloorAnswer}
-use Rattle.plan.specs.Floor.{behind, floorOf}
-use Rattle.plan.proofs.LawsFloor.{floor-empty, floor-then}
-use Rattle.plan.proofs.LawsRun.{run-rises}
+use Rattle.floors.specs.declared.floor.FloorAnswer.{FloorAnswer}
+use Rattle.floors.specs.Floor.{behind, floorOf}
+use Rattle.floors.proofs.LawsFloor.{floor-empty, floor-then}
+use Rattle.floors.proofs.LawsRun.{run-rises}
 use Rattle.verdict.specs.Means.{isBytes, Always, Sometimes}
 use Rattle.verdict.proofs.LawsBytes.{bytes-both}
 use Rattle.verdict.proofs.LawsRaise.{raiserAt, raisedAt, raiser-bytes, raiser-accepted, raised-cell, posOf}

@@ -4,9 +4,9 @@ use mathlib.Core.Path.{_≡_, refl, sym, ap, subst, _∙_}
 use mathlib.Core.Bool.{Bool, true, false}
 use mathlib.Core.List.{List, [], _++_}
 use lib.ListN.{length, take}
-use Rattle.plan.specs.declared.floor.FloorAnswer.{FloorAnswer}
-use Rattle.plan.specs.Floor.{behind, floorOf}
-use Rattle.plan.proofs.LawsFloor.{floor-empty, floor-before, floor-joined}
+use Rattle.floors.specs.declared.floor.FloorAnswer.{FloorAnswer}
+use Rattle.floors.specs.Floor.{behind, floorOf}
+use Rattle.floors.proofs.LawsFloor.{floor-empty, floor-before, floor-joined}
 use Rattle.verdict.proofs.LawsBytes.{bytes-both, bytes-front}
 use Rattle.de9im.specs.declared.answer.Checked.the-variants.{Fine}
 use Rattle.de9im.specs.declared.refusal.Refusal.{Refusal}

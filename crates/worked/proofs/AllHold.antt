@@ -13,13 +13,13 @@ use Rattle.predicates.specs.Predicates.{holds}
 use Rattle.de9im.specs.Text.{cellLetterOf, firstBad}
 use Rattle.ends.specs.Bundle.{count, onJoined, sideJoined, halfJoined, joinOf}
 use Rattle.star.specs.Calls.{bundledOf, starCall, completedStar, pouredStar}
-use Rattle.star.specs.Completing.{startOf, walkFrom, walkOf, any, missingLeft, filledOf}
+use Rattle.walks.specs.Completing.{startOf, walkFrom, walkOf, any, missingLeft, filledOf}
 use Rattle.ends.specs.Direction.{orderOf}
 use Rattle.ends.specs.Ends.{firstFault, checkedOf}
-use Rattle.star.specs.Pouring.{pourNode, pourLabel, pourLabels}
+use Rattle.walks.specs.Pouring.{pourNode, pourLabel, pourLabels}
 use Rattle.ends.specs.Star.{insertDir, dirsFrom, keep}
-use Rattle.plan.specs.EndBytes.{dirAt, endAt, readEnds}
-use Rattle.plan.specs.LabelBytes.{sidesAt, labelAt}
+use Rattle.decoder.specs.EndBytes.{dirAt, endAt, readEnds}
+use Rattle.decoder.specs.LabelBytes.{sidesAt, labelAt}
 use Rattle.plan.specs.Record.{recordOf}
 use Rattle.frame.specs.Lent.{wroteOf, writtenOf}
 use Rattle.report.specs.Report.{longBytes}

@@ -8,8 +8,8 @@ use lib.ListN.{length, replicate}
 use lib.Seq.{getD-append-add}
 use Rattle.de9im.specs.declared.«coordinate_position».Position.the-variants.{OnBoundary}
 use Rattle.ends.specs.declared.«edge_end».EdgeEnd.{EdgeEnd}
-use Rattle.plan.specs.EndBytes.{dirAt, endAt, readEnds, good}
-use Rattle.plan.specs.LabelBytes.{sidesAt, labelAt}
+use Rattle.decoder.specs.EndBytes.{dirAt, endAt, readEnds, good}
+use Rattle.decoder.specs.LabelBytes.{sidesAt, labelAt}
 use Rattle.plan.proofs.LawsMoved.{Moved, ends-moved}
 use Rattle.worked.specs.Examples.{line, many}
 

@@ -10,8 +10,8 @@ use Rattle.de9im.specs.declared.answer.Checked.{Checked}
 use Rattle.de9im.specs.declared.answer.Checked.the-variants.{Refused}
 use Rattle.de9im.specs.declared.refusal.Refusal.the-variants.{Short}
 use Rattle.frame.specs.Words.{promised}
-use Rattle.plan.specs.declared.floor.FloorAnswer.{FloorAnswer}
-use Rattle.plan.specs.Floor.{stoppedAs, floorOf}
+use Rattle.floors.specs.declared.floor.FloorAnswer.{FloorAnswer}
+use Rattle.floors.specs.Floor.{stoppedAs, floorOf}
 use Rattle.pieces.specs.declared.state.Counted.{Counted}
 use Rattle.pieces.specs.State.{frontSize}
 use Rattle.pieces.specs.Pieces.{Kept}

@@ -9,7 +9,7 @@ use Rattle.star.specs.declared.«edge_end_bundle_star».Labeled.{Labeled
 use Rattle.star.specs.declared.«edge_end_bundle_star».Start.{Start}
 use Rattle.star.specs.declared.«edge_end_bundle_star».Start.the-variants as S
 use Rattle.star.specs.Calls.{refusedStar}
-use Rattle.star.specs.Inner.Places.{labelsFrom}
+use Rattle.walks.specs.Inner.Places.{labelsFrom}
 
 abbrev pub startedStar : Start → List ℕ → Labeled
 startedStar S.Missing ws = refusedStar MissingLeft

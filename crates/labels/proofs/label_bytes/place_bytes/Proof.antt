@@ -1,6 +1,6 @@
 -- Seven bytes, each by `upper`, `lower` or `kind`, in their places. Assumes nothing.
 use borrow.Author.Needs.{needs}
-use Rattle.star.specs.Inner.Places.{labelIn}
+use Rattle.walks.specs.Inner.Places.{labelIn}
 use Rattle.labels.proofs.label_bytes.place_bytes.Statement.{statement}
 use Rattle.labels.proofs.label_bytes.place_bytes.Tie as tie
 

@@ -5,9 +5,9 @@ use Prim.Native.Nat.{_*_, _-_, _+_, _≤_, _<_}
 use mathlib.Core.Path.{_≡_, refl, sym, _∙_}
 use lib.ListN.{length, take, length-set}
 use lib.Seq.{length-take-le}
-use Rattle.star.specs.Inner.Places.{labelWord, nextWord, labelsFrom}
-use Rattle.star.specs.Inner.Walking.{scan, after}
-use Rattle.star.proofs.LawsScan.{scan-more, after-more, scan-length}
+use Rattle.walks.specs.Inner.Places.{labelWord, nextWord, labelsFrom}
+use Rattle.walks.specs.Inner.Walking.{scan, after}
+use Rattle.walks.proofs.LawsScan.{scan-more, after-more, scan-length}
 use Rattle.labels.specs.Labels.{labelsBytes}
 use Rattle.labels.specs.Inner.Front.{Front}
 use Rattle.labels.proofs.star_call.put_labels.Statement.{statement}

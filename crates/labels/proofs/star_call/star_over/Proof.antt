@@ -5,10 +5,10 @@ use Prim.Native.Nat.{_*_, _≤_}
 use mathlib.Core.Path.{_≡_, refl, sym, ap, _∙_}
 use lib.ListN.{length, take}
 use lib.Seq.{length-take-le}
-use Rattle.star.specs.Inner.Places.{labelWord, nextWord, labelsFrom}
-use Rattle.star.proofs.LawsScan.{scan-length}
-use Rattle.plan.specs.EndBytes.{readEnds, endsCall, good, bad}
-use Rattle.plan.proofs.LawsGathering.{opened-bad, opened-good}
+use Rattle.walks.specs.Inner.Places.{labelWord, nextWord, labelsFrom}
+use Rattle.walks.proofs.LawsScan.{scan-length}
+use Rattle.decoder.specs.EndBytes.{readEnds, endsCall, good, bad}
+use Rattle.decoder.proofs.LawsGathering.{opened-bad, opened-good}
 use Rattle.labels.specs.Calls.{starOn}
 use Rattle.labels.proofs.LawsCalls.{call-reads, star-read, refused-put, full-put, short-put}
 use Rattle.labels.proofs.star_call.star_over.Statement.{statement}

@@ -2,7 +2,7 @@
 use borrow.Author.Needs.{needs}
 use denote.Ref.{now}
 use mathlib.Core.Path.{_≡_, ap}
-use Rattle.plan.specs.declared.floor.FloorAnswer.{FloorAnswer}
+use Rattle.floors.specs.declared.floor.FloorAnswer.{FloorAnswer}
 use Rattle.pieces.proofs.LawsLists.{put-back}
 use Rattle.pieces.proofs.front.stop_cut_down.Statement.{statement}
 use Rattle.pieces.proofs.front.stop_cut_down.Tie as tie

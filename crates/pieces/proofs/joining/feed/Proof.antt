@@ -6,9 +6,9 @@ use Prim.Native.Nat.{ℕ, _≤_}
 use mathlib.Core.Path.{_≡_, sym}
 use mathlib.Core.List.{List}
 use lib.ListN.{length}
-use Rattle.plan.specs.declared.floor.FloorAnswer.{FloorAnswer}
-use Rattle.plan.specs.Floor.{floorOf}
-use Rattle.plan.proofs.LawsFloor.{floor-used}
+use Rattle.floors.specs.declared.floor.FloorAnswer.{FloorAnswer}
+use Rattle.floors.specs.Floor.{floorOf}
+use Rattle.floors.proofs.LawsFloor.{floor-used}
 use Rattle.pieces.proofs.LawsFed.{fed-feed}
 use Rattle.pieces.proofs.joining.feed.Statement.{statement}
 use Rattle.pieces.proofs.joining.feed.Tie as tie

@@ -8,9 +8,9 @@ use mathlib.Core.Path.{_≡_, refl, sym, ap, subst, _∙_}
 use mathlib.Core.List.{List}
 use lib.ListN.{length, take, drop, length-take}
 use lib.Seq.{length-take-le}
-use Rattle.plan.specs.declared.floor.FloorAnswer.{FloorAnswer}
-use Rattle.plan.specs.Floor.{floorOf}
-use Rattle.plan.proofs.LawsFloor.{floor-used}
+use Rattle.floors.specs.declared.floor.FloorAnswer.{FloorAnswer}
+use Rattle.floors.specs.Floor.{floorOf}
+use Rattle.floors.proofs.LawsFloor.{floor-used}
 use Rattle.pieces.specs.State.{frontSize}
 use Rattle.pieces.specs.Inner.Joining.{added, waiting, Fed}
 use Rattle.pieces.proofs.LawsLists.{to-end}

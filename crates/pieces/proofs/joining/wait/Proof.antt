@@ -6,8 +6,8 @@ use mathlib.Core.Path.{_≡_, refl}
 use mathlib.Core.List.{List}
 use Rattle.de9im.specs.declared.answer.Checked.{Checked}
 use Rattle.frame.specs.Words.{promised}
-use Rattle.plan.specs.declared.floor.FloorAnswer.{FloorAnswer}
-use Rattle.plan.specs.Floor.{stoppedAs}
+use Rattle.floors.specs.declared.floor.FloorAnswer.{FloorAnswer}
+use Rattle.floors.specs.Floor.{stoppedAs}
 use Rattle.pieces.specs.declared.state.Counted.{Counted}
 use Rattle.pieces.specs.Inner.Joining.{added, stopAt, waiting}
 use Rattle.pieces.proofs.joining.wait.Statement.{statement}

@@ -2,9 +2,9 @@ use borrow.Author.Needs.{needs}
 use mathlib.Core.Path.{_≡_, refl, sym, ap}
 use mathlib.Core.List.{[]}
 use Rattle.de9im.proofs.LawsApart.{fine-refused}
-use Rattle.plan.proofs.LawsFloor.{floor-empty}
+use Rattle.floors.proofs.LawsFloor.{floor-empty}
 use Rattle.de9im.specs.declared.answer.Checked.the-variants.{Fine}
-use Rattle.plan.specs.Floor.{stoppedAs}
+use Rattle.floors.specs.Floor.{stoppedAs}
 use Rattle.pieces.specs.declared.state.Counted.{Counted}
 use Rattle.pieces.specs.Pieces.{countedAs}
 use Rattle.pieces.proofs.LawsState.{still-holds, in-front}

@@ -5,7 +5,7 @@ use mathlib.Core.Path.{refl, _∙_}
 use borrow.Author.Tests.{eq-eqb, ne-eqb}
 use Rattle.plan.specs.Said.{edgeOf}
 use Rattle.frame.specs.Words.{promised}
-use Rattle.plan.proofs.LawsReading.{label-reading}
+use Rattle.decoder.proofs.LawsReading.{label-reading}
 use Rattle.plan.proofs.record.edge_record.Statement.{statement}
 use Rattle.plan.proofs.record.edge_record.Tie as tie
 

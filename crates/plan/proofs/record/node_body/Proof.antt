@@ -3,7 +3,7 @@ use borrow.Author.Needs.{needs}
 use native.Mathlib.Omega.{arith}
 use mathlib.Core.Path.{refl, sym, _∙_}
 use Rattle.plan.specs.Said.{nodeBody}
-use Rattle.plan.proofs.LawsReading.{node-reading}
+use Rattle.decoder.proofs.LawsReading.{node-reading}
 use Rattle.plan.proofs.record.node_body.Statement.{statement}
 use Rattle.plan.proofs.record.node_body.Tie as tie
 

@@ -2,10 +2,10 @@
 use borrow.Author.Needs.{needs}
 use native.Mathlib.Omega.{arith}
 use mathlib.Core.Path.{_≡_, refl}
-use Rattle.plan.specs.EndBytes.{readEnds, bad}
+use Rattle.decoder.specs.EndBytes.{readEnds, bad}
 use Rattle.plan.specs.Said.{nodeBody}
-use Rattle.plan.proofs.LawsGathering.{opened-bad, opened-good}
-use Rattle.plan.proofs.LawsReading.{node-reading}
+use Rattle.decoder.proofs.LawsGathering.{opened-bad, opened-good}
+use Rattle.decoder.proofs.LawsReading.{node-reading}
 use Rattle.plan.proofs.LawsRecord.{node-poured}
 use Rattle.plan.proofs.record.pour_ends.Statement.{statement}
 use Rattle.plan.proofs.record.pour_ends.Tie as tie

@@ -7,10 +7,10 @@ use lib.ListN.{length, take}
 use lib.Seq.{length-take-le}
 use Rattle.ends.specs.Count.{mostEnds}
 use Rattle.ends.specs.Label.{blank, padded}
-use Rattle.star.specs.Inner.Places.{labelWord, nextWord, labelsFrom}
-use Rattle.star.specs.Inner.Walking.{scan, after}
+use Rattle.walks.specs.Inner.Places.{labelWord, nextWord, labelsFrom}
+use Rattle.walks.specs.Inner.Walking.{scan, after}
 use Rattle.ends.proofs.LawsLists.{pad-step}
-use Rattle.star.proofs.LawsScan.{scan-more, after-more, scan-length}
+use Rattle.walks.proofs.LawsScan.{scan-more, after-more, scan-length}
 use Rattle.star.proofs.edge_end_bundle_star.complete_words.Statement.{statement}
 use Rattle.star.proofs.edge_end_bundle_star.complete_words.Tie as tie
 

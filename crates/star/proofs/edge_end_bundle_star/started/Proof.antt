@@ -3,7 +3,7 @@ use borrow.Author.Needs.{needs}
 use mathlib.Core.Path.{_≡_, sym, _∙_}
 use mathlib.Core.Bool.{true, false}
 use lib.ListN.{length, take}
-use Rattle.star.specs.Inner.Starts.{startsOf, missesLeft}
+use Rattle.walks.specs.Inner.Starts.{startsOf, missesLeft}
 use Rattle.star.proofs.LawsBundles.{labels-refused, words-labeled}
 use Rattle.star.proofs.edge_end_bundle_star.started.Statement.{statement}
 use Rattle.star.proofs.edge_end_bundle_star.started.Tie as tie

@@ -3,7 +3,7 @@ use borrow.Author.Needs.{needs}
 use mathlib.Core.Path.{_≡_, sym, ap, _∙_}
 use mathlib.Core.Bool.{true, false}
 use lib.ListN.{take}
-use Rattle.star.specs.Inner.Starts.{startsOf, missesLeft}
+use Rattle.walks.specs.Inner.Starts.{startsOf, missesLeft}
 use Rattle.star.proofs.LawsBundles.{words-refused, words-poured}
 use Rattle.star.proofs.pouring.pour_bundles.Statement.{statement}
 use Rattle.star.proofs.pouring.pour_bundles.Tie as tie

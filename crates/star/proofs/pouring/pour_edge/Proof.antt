@@ -1,7 +1,7 @@
 -- The sets hold what the label pours into each cell.
 use borrow.Author.Needs.{needs}
 use mathlib.Core.Path.{_∙_}
-use Rattle.star.proofs.LawsRaised.{label-poured}
+use Rattle.walks.proofs.LawsRaised.{label-poured}
 use Rattle.star.proofs.pouring.pour_edge.Statement.{statement}
 use Rattle.star.proofs.pouring.pour_edge.Tie as tie
 

@@ -1,6 +1,6 @@
 -- A line label stops after its on; an area label goes on with left and right: the two cases of the definition.
 use borrow.Author.Needs.{needs}
-use Rattle.star.specs.Pouring.{pourLabel}
+use Rattle.walks.specs.Pouring.{pourLabel}
 use borrow.Author.Tests.{not-true, not-false}
 use Rattle.star.proofs.pouring.pour_label.Statement.{statement}
 use Rattle.star.proofs.pouring.pour_label.Tie as tie

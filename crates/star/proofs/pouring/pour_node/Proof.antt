@@ -1,6 +1,6 @@
 -- Raising where both are known is the definition itself.
 use borrow.Author.Needs.{needs}
-use Rattle.star.specs.Pouring.{pourNode}
+use Rattle.walks.specs.Pouring.{pourNode}
 use Rattle.star.proofs.pouring.pour_node.Statement.{statement}
 use Rattle.star.proofs.pouring.pour_node.Tie as tie
 

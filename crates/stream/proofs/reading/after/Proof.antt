@@ -5,7 +5,7 @@ use denote.Ref.{now}
 use mathlib.Core.Path.{_≡_, refl, sym, ap, _∙_}
 use lib.ListN.{take}
 use lib.Seq.{length-take-le}
-use Rattle.plan.specs.declared.floor.FloorAnswer.{FloorAnswer}
+use Rattle.floors.specs.declared.floor.FloorAnswer.{FloorAnswer}
 use Rattle.stream.specs.Reading.{nextOf}
 use Rattle.stream.proofs.reading.after.Statement.{statement}
 use Rattle.stream.proofs.reading.after.Tie as tie
