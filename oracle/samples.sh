@@ -7,6 +7,7 @@ new=$(mktemp)
 trap 'rm -f "$new"' EXIT
 cargo run --quiet --release --bin sample >"$new"
 sh geos/run.sh --sample >>"$new"
+sh cut/run.sh --sample >>"$new"
 cat "$new" >"$file"
 printf '%s replayed, 0 differ\n' "$(grep -vc '^#' "$file")" >../crates/replay/stdout
 cat ../crates/replay/stdout

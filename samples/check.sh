@@ -1,6 +1,6 @@
 #!/bin/sh
-# Runs ./relate on each sample plan, on each example of docs/REFUSALS.md and on words that it doesn't take, then ./changed and ./ask
-# on their examples and such words, and compares what they print and say.
+# Runs ./relate on each sample plan, on each example of docs/REFUSALS.md and on words that it doesn't take, ./outlines on each pair of
+# outlines, then ./changed and ./ask on their examples and such words, and compares what they print and say.
 set -eu
 cd "$(dirname "$0")/.."
 work=$(mktemp -d)
@@ -50,6 +50,35 @@ for words in --nothing -h samples 'samples/same.plan samples/same.plan' samples/
 done
 ./relate --help >"$work/out"
 [ "$(wc -l <"$work/out")" -le 24 ] || wrong "the help is longer than a screen"
+
+# ./outlines: each pair, a refusal in words, and words that it doesn't take
+./outlines samples/alcove_a.wkt samples/alcove_b.wkt >"$work/out" # proved and built first, if it isn't
+count=0
+for first in samples/*_a.wkt; do
+    name=${first%_a.wkt}
+    ./outlines "$first" "${name}_b.wkt" >"$work/out" 2>"$work/said"
+    count=$((count + 1))
+    if cmp "$work/out" "$name.txt"; then echo "ok ${name#samples/}: $(head -n 1 "$name.txt")"; else wrong "$first"; fi
+    [ ! -s "$work/said" ] || wrong "$first: something on standard error"
+done
+[ "$count" -ge 3 ] || wrong "samples/ has $count pairs of outlines"
+pair=crates/outlines_cases/data
+for words in 'uncut both 21 at 1 0' 'crossed B 20 at 0 2' 'word B 19 at 4' 'point B 16 at 0' 'long B 12 at 65536' 'none B 23 at 0'; do
+    ./outlines $pair/square.wkt "$pair/${words%% *}.wkt" >"$work/out" 2>"$work/said"
+    if [ "$(cat "$work/out")" = "refused ${words#* }" ] && [ "$(wc -l <"$work/said")" -eq 1 ]; then
+        echo "ok $(cat "$work/said")"
+    else
+        wrong "./outlines of ${words%% *}"
+    fi
+done
+for words in --nothing '' $pair/square.wkt "$pair/square.wkt $pair/square.wkt $pair/square.wkt"; do
+    status=0
+    # shellcheck disable=SC2086
+    ./outlines $words >"$work/out" 2>"$work/said" || status=$?
+    if [ "$status" -ne 2 ] || [ -s "$work/out" ] || [ "$(wc -l <"$work/said")" -ne 1 ]; then wrong "./outlines $words"; fi
+done
+./outlines --help >"$work/out"
+[ "$(wc -l <"$work/out")" -le 30 ] || wrong "the help of ./outlines is longer than a screen"
 
 # ./changed: the example of README.md, a refusal in words, and words that it doesn't take
 pair=crates/changed/data

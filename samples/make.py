@@ -4,9 +4,10 @@
     python3 samples/make.py
 
 A plan is described below once, as records and as a drawing. A is a reader's cover area or path, B is a room. From that
-come NAME.plan (the bytes), NAME.txt (what is printed), NAME.svg (picture.py) and README.md. The matrix of each stands
-here as it follows from the picture, not as the program says it; the answers are read off it by document 01's table.
-`sh samples/check.sh` compares. The page's last two pictures are outline.py's and regions.py's, which ask the library.
+come NAME.plan (the bytes; of two outlines NAME_a.wkt and NAME_b.wkt), NAME.txt (what is printed), NAME.svg (picture.py)
+and README.md. The matrix of each stands here as it follows from the picture, not as the program says it; the answers
+are read off it by document 01's table. `sh samples/check.sh` compares. The page's last two pictures are outline.py's
+and regions.py's, which ask the library.
 """
 import os
 import struct
@@ -15,7 +16,7 @@ import sys
 sys.dont_write_bytecode = True
 from outline import SECTION  # noqa: E402 (no folder of compiled files beside the samples)
 from regions import SECTION as REGIONS  # noqa: E402
-from picture import gallery, svg  # noqa: E402
+from picture import gallery, pairs, svg  # noqa: E402
 
 HERE = os.path.dirname(os.path.abspath(__file__))
 NONE, I, B, E = 0, 1, 2, 3
@@ -232,6 +233,28 @@ PLANS = [
               'picture: of II, record 5. `cargo run --example which_wall` in `bindings/rust` reads this plan and says so.'),
 ]
 
+# Two outlines each, drawn in metres, as the plan tool exports them in millimetres: cut at each other, so that each place
+# where their walls meet is a corner of both.
+OUTLINES = [
+    dict(name='two_areas', title='P1\'s squares as two outlines, cut where their walls cross', prints=answers('212101212'),
+         a=[[(0, 0), (4, 0), (4, 2), (4, 4), (2, 4), (0, 4)]], b=[[(2, 2), (4, 2), (6, 2), (6, 6), (2, 6), (2, 4)]],
+         named=dict(A=(1, 1), B=(5, 5)),
+         alt='Two squares overlap in a corner. The two places where their walls cross are corners of both.'),
+    dict(name='alcove', title='A reader\'s area fills the alcove of a room and reaches out of it', prints=answers('2FF11F212'),
+         a=[[(2, 3), (4, 3), (4, 4), (4, 6), (2, 6), (2, 4)]],
+         b=[[(0, 0), (6, 0), (6, 4), (4, 4), (4, 6), (2, 6), (2, 4), (0, 4)]], named=dict(A=(3, 4.5), B=(1, 1)),
+         alt='A room with an alcove in its upper wall. A rectangle fills the alcove and reaches a little into the room.'),
+    dict(name='neighbours', title='A room and its neighbour, with a part of a wall in common', prints=answers('FF2F11212'),
+         a=[[(0, 0), (3, 0), (3, 1), (3, 3), (3, 5), (0, 5)]], b=[[(3, 1), (7, 0), (8, 3), (3, 3)]],
+         named=dict(A=(1.5, 2.5), B=(5.5, 2)),
+         alt='A rectangle, and at the middle of its right wall a slanting room that has this part of the wall for its own.'),
+]
+
+
+def wkt(ring):
+    return 'POLYGON ((' + ', '.join(f'{1000 * x} {1000 * y}' for x, y in ring + ring[:1]) + '))\n'
+
+
 # --- the inputs that the gate runs: one for the program itself, the others for crates/relate_cases ---------------------------
 
 WEST = end(-7, 0, line(I, E))
@@ -265,10 +288,16 @@ def write(path, data):
 
 
 def main():
-    write(os.path.join(HERE, 'README.md'), gallery(PLANS) + '\n' + SECTION + '\n' + REGIONS)
+    write(os.path.join(HERE, 'README.md'), gallery(PLANS) + '\n' + pairs(OUTLINES) + '\n' + SECTION + '\n' + REGIONS)
     for plan in PLANS:
         at = os.path.join(HERE, plan['name'])
         write(at + '.plan', plan['bytes'])
+        write(at + '.txt', plan['prints'])
+        write(at + '.svg', svg(plan))
+    for plan in OUTLINES:
+        at = os.path.join(HERE, plan['name'])
+        write(at + '_a.wkt', wkt(plan['a'][0]))
+        write(at + '_b.wkt', wkt(plan['b'][0]))
         write(at + '.txt', plan['prints'])
         write(at + '.svg', svg(plan))
     crates = os.path.join(HERE, '..', 'crates')

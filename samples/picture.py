@@ -119,3 +119,14 @@ def gallery(plans):
         out += [f'{yes}.', ''] if yes else ['']
         out += [plan['more'], ''] if 'more' in plan else []
     return '\n'.join(out)
+
+
+def pairs(plans):
+    """The part of the page that shows two outlines each."""
+    out = []
+    for plan in plans:
+        name, (first, *rest) = plan['name'], plan['prints'].splitlines()
+        yes = ', '.join(line.split()[0] for line in rest if line.endswith(' yes'))
+        out += [f'## {name}', '', f'{plan["title"]}.', '', f'![{plan["alt"]}]({name}.svg)', '',
+                f'`./outlines samples/{name}_a.wkt samples/{name}_b.wkt` prints [`{first}`]({name}.txt), and yes for', f'{yes}.', '']
+    return '\n'.join(out)

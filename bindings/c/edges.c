@@ -47,7 +47,7 @@ static uint8_t *lent(pages p, const void *bytes, size_t count, int at_end) {
 typedef struct {
     uint8_t *cells, *text; /* nine bytes each; text is also a label's seven */
     const uint8_t *bytes;
-    const int32_t *xy;
+    const int32_t *xy, *other; /* an outline or a shape; a second outline, of as many numbers */
     uint8_t *labels, *buffer;
     int32_t *corners; /* read from a text */
     uint64_t *answer;
@@ -101,6 +101,12 @@ static uint32_t region_name(const lendings *l) {
     return misonkandi_region_name(MISONKANDI_REGION_NONE_OF_THESE, l->buffer, l->count, 0);
 }
 static uint32_t point_in_outline(const lendings *l) { return misonkandi_point_in_outline(l->xy, l->count, 1, 0); }
+static uint32_t relate_outlines(const lendings *l) {
+    return misonkandi_relate_outlines(l->xy, l->count, l->other, l->count, l->cells, l->answer);
+}
+static uint32_t commission(const lendings *l) {
+    return misonkandi_commission(l->xy, l->count, l->other, l->count, l->buffer, l->room, 0);
+}
 static uint32_t bundle(const lendings *l) { return misonkandi_bundle(l->bytes, l->count, l->text); }
 /* Room for the labels of all whole ends. */
 static uint32_t star(const lendings *l) { return misonkandi_star(l->bytes, l->count, 1, 0, l->buffer, l->room); }
@@ -145,12 +151,12 @@ static uint32_t write_wkt(const lendings *l) {
     return misonkandi_write_wkt(MISONKANDI_SHAPE_POLYGON, l->xy, l->count, l->buffer, l->room, 0);
 }
 
-/* The bytes that a call is given: a text, a predicate's or a region's name, ends, a record of a node in version 1 or 2 or of an edge, a
- * floor of both in version 1, one of the longest record of version 2, a shape's text, a report, long or short. Or the
- * numbers of an outline or of a shape. */
+/* The bytes that a call is given: a text, a predicate's or a region's name, ends, a record of a node in version 1 or 2 or
+ * of an edge, a floor of both in version 1, one of the longest record of version 2, a shape's text, a report, long or
+ * short. Or the numbers of an outline, of two, or of a shape. */
 enum { NO_ROW = 8388607 }; /* MISONKANDI_NO_SUCH_ROW, read as a refusal */
-enum given { TEXT, NAME, REGION_NAME, ENDS, MANY, NODE, TWO, EDGE, FLOOR, LONG_FLOOR, OUTLINE, SHAPE, WKT, REPORT,
-             SHORT_REPORT };
+enum given { TEXT, NAME, REGION_NAME, ENDS, MANY, NODE, TWO, EDGE, FLOOR, LONG_FLOOR, OUTLINE, OUTLINES, SHAPE, WKT,
+             REPORT, SHORT_REPORT };
 enum { MOST_ENDS = MISONKANDI_MOST_ENDS, MOST_GIVEN = MISONKANDI_MOST_RECORD_BYTES + 11 };
 
 static const struct {
@@ -187,6 +193,8 @@ static const struct {
     {"region_named", region_named, REGION_NAME, NO_ROW, 0},
     {"region_name", region_name, REGION_NAME, 12, 0},
     {"point_in_outline", point_in_outline, OUTLINE, 16, 0},
+    {"relate_outlines", relate_outlines, OUTLINES, 16, 1},
+    {"commission", commission, OUTLINES, 16, 0},
     {"bundle", bundle, ENDS, 0, 0},
     {"bundle, 600", bundle, MANY, 0, 0},
     {"star", star, ENDS, 0, 0},
@@ -232,16 +240,16 @@ static size_t write_ends(uint8_t *to, unsigned count) {
     return count * MISONKANDI_END_BYTES;
 }
 
-/* A saw of 64 corners: 63 along its teeth, each one high, and one far below. And 64 times the corner that takes the
- * most bytes. */
+/* A saw of 64 corners: 63 along its teeth, each one high, and one far below; the same higher up, so that both together
+ * have the most records; and 64 times the corner that takes the most bytes. */
 enum { MOST_NUMBERS = 2 * MISONKANDI_MOST_CORNERS, MOST = 1000000000 };
-static int32_t saw[MOST_NUMBERS], longest[MOST_NUMBERS];
+static int32_t saw[MOST_NUMBERS], above[MOST_NUMBERS], longest[MOST_NUMBERS];
 
 static void write_corners(void) {
     int32_t x;
     for (x = 0; x < 63; x++) saw[2 * x] = x, saw[2 * x + 1] = x % 2;
     saw[126] = 31, saw[127] = -10;
-    for (x = 0; x < MOST_NUMBERS; x++) longest[x] = -MOST;
+    for (x = 0; x < MOST_NUMBERS; x++) above[x] = saw[x] + 20 * (x % 2), longest[x] = -MOST;
 }
 
 static const int32_t *numbers_of(enum given given) { return given == SHAPE ? longest : saw; }
@@ -274,7 +282,7 @@ static size_t write_given(enum given given, uint8_t to[MOST_GIVEN]) {
     case EDGE: memcpy(to, edge, 11); return 11;
     case FLOOR: write_given(NODE, to); memcpy(to + 489, edge, 11); return 500;
     case LONG_FLOOR: write_given(TWO, to); memcpy(to + 9010, edge, 11); return 9021;
-    case OUTLINE: case SHAPE: return MOST_NUMBERS;
+    case OUTLINE: case OUTLINES: case SHAPE: return MOST_NUMBERS;
     case WKT: return write_longest(to);
     case REPORT: memcpy(to, "\0\12\1" "210F21012", 12); return 12;
     default: memcpy(to, "\0\4\2" "\3\223\233", 6); return 6; /* 210F21012 */
@@ -285,16 +293,20 @@ static size_t write_given(enum given given, uint8_t to[MOST_GIVEN]) {
 
 static const uint8_t start[9] = MISONKANDI_START;
 
-/* The room of a buffer: for the labels of all whole ends, for what is written of a shape or of a record, else as many
- * bytes as are given. */
+/* The room of a buffer: for the labels of all whole ends, for what is written of a shape, of a record or of two outlines
+ * (39 bytes for each of their corners), else as many bytes as are given. */
 static size_t room_of(int k, size_t count) {
     if (calls[k].given == SHAPE) return MISONKANDI_MOST_WKT_BYTES;
+    if (calls[k].given == OUTLINES) return 39 * count;
     if (calls[k].call == star) return count / MISONKANDI_END_BYTES * MISONKANDI_LABEL_BYTES;
     return calls[k].call == convert_record ? count + 1 : count;
 }
 
+/* How many numbers a call is lent for its answer. */
+static size_t numbers_answered(enum given given) { return given == WKT || given == OUTLINES ? 3 : 2; }
+
 /* One call with its bytes cut to a count, all that it is lent at the end of a room or at its beginning. */
-enum { ROOMS = 9 };
+enum { ROOMS = 10 };
 static uint32_t guarded_call(int k, const uint8_t *bytes, size_t count, int at_end, const pages room[ROOMS]) {
     static const uint8_t nothing[MOST_GIVEN];
     enum given given = calls[k].given;
@@ -302,13 +314,14 @@ static uint32_t guarded_call(int k, const uint8_t *bytes, size_t count, int at_e
     l.cells = lent(room[0], start, 9, at_end);
     l.text = lent(room[1], nothing, given == ENDS || given == MANY ? 7 : 9, at_end);
     l.labels = lent(room[2], nothing, 224, at_end);
-    if (given == OUTLINE || given == SHAPE)
+    if (given == OUTLINE || given == OUTLINES || given == SHAPE)
         l.xy = (const int32_t *)lent(room[3], numbers_of(given), count * sizeof saw[0], at_end);
     else l.bytes = lent(room[3], bytes, count, at_end);
+    if (given == OUTLINES) l.other = (const int32_t *)lent(room[9], above, count * sizeof above[0], at_end);
     l.room = room_of(k, count);
     l.buffer = lent(room[4], nothing, l.room, at_end);
     l.corners = (int32_t *)lent(room[5], nothing, sizeof saw, at_end);
-    l.answer = (uint64_t *)lent(room[6], nothing, (given == WKT ? 3 : 2) * sizeof *l.answer, at_end);
+    l.answer = (uint64_t *)lent(room[6], nothing, numbers_answered(given) * sizeof *l.answer, at_end);
     l.state = (misonkandi_pieces *)(at_end ? room[7].start + ROOM - sizeof *l.state : room[7].start);
     misonkandi_start(l.state, start);
     l.ten = (uint32_t *)lent(room[8], nothing, MISONKANDI_TRACED_NUMBERS * sizeof *l.ten, at_end);
@@ -348,7 +361,7 @@ static void nulls(void) {
         misonkandi_start(&state, cells);
         l.cells = cells, l.text = text, l.labels = labels;
         l.corners = corners, l.answer = answer, l.state = &state, l.ten = ten;
-        l.bytes = NULL, l.xy = NULL, l.buffer = NULL, l.count = 0, l.room = 0;
+        l.bytes = NULL, l.xy = NULL, l.other = NULL, l.buffer = NULL, l.count = 0, l.room = 0;
         word = calls[k].call(&l);
         same(calls[k].name, MISONKANDI_REFUSED(word) ? MISONKANDI_NUMBER(word) : 0, calls[k].none);
         if (calls[k].none != 0) same(calls[k].name, memcmp(cells, before, 9) == 0, 1);
@@ -972,6 +985,165 @@ static void outlines(void) {
     for (x = 1; x < 62; x++) SAME(located(saw, MOST_NUMBERS, x, 0), x % 2 == 0 ? ON : IN);
 }
 
+/* ---- Two outlines ---- */
+
+/* Numbers as they are lent, and how many. */
+typedef struct { const int32_t *xy; size_t count; } numbers_lent;
+#define LENT(xy) numbers_lent_at(xy, sizeof(xy) / sizeof(xy)[0])
+static numbers_lent numbers_lent_at(const int32_t *xy, size_t count) {
+    numbers_lent n;
+    n.xy = xy, n.count = count;
+    return n;
+}
+
+static uint32_t write_records(numbers_lent a, numbers_lent b, uint8_t *buffer, size_t room, size_t offset) {
+    return misonkandi_commission(a.xy, a.count, b.xy, b.count, buffer, room, offset);
+}
+
+/* The records of two outlines: so many of so many bytes, none is refused, and they pour these cells. In just the room
+ * that they take, against a page that nobody may touch, and in the middle of a longer buffer they are the same; with a
+ * byte less it is 12 and no byte is written. */
+static void records_of(numbers_lent a, numbers_lent b, const uint8_t meant[9], size_t records, size_t count) {
+    static uint8_t buffer[MISONKANDI_MOST_COMMISSION_BYTES + 7], around[MISONKANDI_MOST_COMMISSION_BYTES + 7];
+    pages room = guarded();
+    uint8_t cells[9] = MISONKANDI_START, *exact = room.start + ROOM - count;
+    uint64_t answer[2] = {9, 9};
+    SAME(write_records(a, b, exact, count, 0), count);
+    SAME(misonkandi_floor(cells, exact, count, answer), 0);
+    SAME(answer[0], count), SAME(answer[1], records), SAME(memcmp(cells, meant, 9), 0);
+    memset(buffer, 7, sizeof buffer), memset(around, 7, sizeof around);
+    refused(write_records(a, b, buffer, count - 1, 0), MISONKANDI_REFUSAL_NO_ROOM, 0);
+    refused(write_records(a, b, buffer, count + 2, 3), MISONKANDI_REFUSAL_NO_ROOM, 0);
+    refused(write_records(a, b, buffer, count, count + 1), MISONKANDI_REFUSAL_NO_ROOM, 0);
+    refused(write_records(a, b, buffer, sizeof buffer, (size_t)-1), MISONKANDI_REFUSAL_NO_ROOM, 0);
+    refused(write_records(a, b, NULL, 0, 0), MISONKANDI_REFUSAL_NO_ROOM, 0);
+    SAME(memcmp(buffer, around, sizeof buffer), 0);
+    SAME(write_records(a, b, buffer, sizeof buffer, 3), count);
+    memcpy(around + 3, exact, count);
+    SAME(memcmp(buffer, around, sizeof buffer), 0);
+    munmap(room.start - ROOM, 3 * ROOM);
+}
+
+/* The cells of two outlines, the answer as it was; from every start of a, both ways round, and with b exchanged for a
+ * the transposed ones. `shared` corners are of both. */
+static void related(numbers_lent a, numbers_lent b, const char *text, size_t shared) {
+    int32_t other[MOST_NUMBERS] = {0};
+    numbers_lent from = numbers_lent_at(other, a.count);
+    size_t corners = (a.count + b.count) / 2, k;
+    uint8_t meant[9], back[9], cells[9];
+    uint64_t answer[3] = {9, 8, 7};
+    SAME(misonkandi_from_text(meant, bytes_of(text), 9), 0);
+    memcpy(back, meant, 9), misonkandi_transpose(back);
+    for (k = 0; k < a.count; k++) {
+        turned(other, a.xy, a.count / 2, k / 2, (int)(k % 2));
+        memset(cells, 250, 9);
+        SAME(misonkandi_relate_outlines(other, a.count, b.xy, b.count, cells, answer), 0);
+        SAME(memcmp(cells, meant, 9), 0);
+        SAME(misonkandi_relate_outlines(b.xy, b.count, other, a.count, cells, answer), 0);
+        SAME(memcmp(cells, back, 9), 0);
+        if (k < 3) records_of(from, b, meant, corners - shared, 9 * (corners - shared) + 30 * corners);
+    }
+    SAME(answer[0], 9), SAME(answer[1], 8), SAME(answer[2], 7);
+}
+
+/* Two that are refused: the word of both calls, which one and which pair, and the cells and the buffer as they were,
+ * with room and without. */
+static void unrelated(numbers_lent a, numbers_lent b, unsigned number, unsigned which, unsigned i, unsigned j) {
+    static uint8_t buffer[MISONKANDI_MOST_COMMISSION_BYTES], before[MISONKANDI_MOST_COMMISSION_BYTES];
+    uint8_t cells[9] = {9, 8, 7, 6, 5, 4, 255, 0, 3}, kept[9];
+    uint64_t answer[3] = {9, 9, 9};
+    memcpy(kept, cells, 9), memset(buffer, 7, sizeof buffer), memset(before, 7, sizeof before);
+    refused(misonkandi_relate_outlines(a.xy, a.count, b.xy, b.count, cells, answer), number, 0);
+    SAME(answer[0], which), SAME(answer[1], i), SAME(answer[2], j);
+    SAME(memcmp(cells, kept, 9), 0);
+    refused(write_records(a, b, buffer, sizeof buffer, 0), number, 0);
+    refused(write_records(a, b, buffer, 0, 1), number, 0);
+    refused(write_records(a, b, NULL, 0, 0), number, 0);
+    SAME(memcmp(buffer, before, sizeof buffer), 0);
+}
+
+static const int32_t square[] = {0, 0, 4, 0, 4, 4, 0, 4}, bow_tie[] = {0, 0, 4, 4, 4, 0, 0, 4};
+
+/* 16, 17 and 18: of a before anything of b, of b before any pair of sides. */
+static void no_outlines(void) {
+    static const int32_t far[] = {0, 0, 4, 0, 0, MOST + 1}, low[] = {0, 0, 4, 0, 0, INT32_MIN};
+    static const int32_t equal[] = {0, 0, 4, 0, 4, 0}, closed[] = {0, 0, 4, 0, 0, 4, 0, 0};
+    static int32_t many[MOST_NUMBERS + 2];
+    struct { numbers_lent xy; unsigned number; } bad[9];
+    size_t k, j;
+    bad[0].xy = numbers_lent_at(NULL, 0), bad[0].number = MISONKANDI_REFUSAL_CORNER_COUNT;
+    bad[1].xy = numbers_lent_at(square, 4), bad[1].number = MISONKANDI_REFUSAL_CORNER_COUNT;
+    bad[2].xy = numbers_lent_at(square, 5), bad[2].number = MISONKANDI_REFUSAL_CORNER_COUNT;
+    bad[3].xy = numbers_lent_at(square, 7), bad[3].number = MISONKANDI_REFUSAL_CORNER_COUNT;
+    bad[4].xy = LENT(many), bad[4].number = MISONKANDI_REFUSAL_CORNER_COUNT; /* all equal, so 18 is due too */
+    bad[5].xy = LENT(far), bad[5].number = MISONKANDI_REFUSAL_OUT_OF_RANGE;
+    bad[6].xy = LENT(low), bad[6].number = MISONKANDI_REFUSAL_OUT_OF_RANGE;
+    bad[7].xy = LENT(equal), bad[7].number = MISONKANDI_REFUSAL_EQUAL_CORNERS;
+    bad[8].xy = LENT(closed), bad[8].number = MISONKANDI_REFUSAL_EQUAL_CORNERS;
+    for (k = 0; k < 9; k++) {
+        for (j = 0; j < 9; j++) unrelated(bad[k].xy, bad[j].xy, bad[k].number, 0, 0, 0);
+        unrelated(bad[k].xy, LENT(bow_tie), bad[k].number, 0, 0, 0);
+        unrelated(LENT(square), bad[k].xy, bad[k].number, 1, 0, 0);
+        unrelated(LENT(bow_tie), bad[k].xy, bad[k].number, 1, 0, 0);
+    }
+}
+
+/* 20: a pair of sides in one outline; in a before in b, and in either before a pair across. */
+static void bad_within(void) {
+    static const int32_t back[] = {0, 0, 4, 0, 2, 0, 2, 3}, over[] = {0, 0, 4, 0, 4, 4, 0, 4, 8, 0};
+    static const int32_t middle[] = {0, 0, 6, 0, 6, 4, 3, 0, 0, 4}, twice[] = {0, 0, 3, 0, 1, 2, 3, 4, 1, 2};
+    struct { numbers_lent xy; unsigned i, j; } bad[5];
+    int k;
+    bad[0].xy = LENT(bow_tie), bad[0].i = 0, bad[0].j = 2; /* they cross */
+    bad[1].xy = LENT(back), bad[1].i = 0, bad[1].j = 1;    /* neighbours, there and back */
+    bad[2].xy = LENT(over), bad[2].i = 0, bad[2].j = 4;    /* neighbours, the last side over the first */
+    bad[3].xy = LENT(middle), bad[3].i = 0, bad[3].j = 2;  /* a corner in a side's middle */
+    bad[4].xy = LENT(twice), bad[4].i = 1, bad[4].j = 3;   /* a corner twice: they share an end and are no neighbours */
+    for (k = 0; k < 5; k++) {
+        unrelated(bad[k].xy, LENT(square), MISONKANDI_REFUSAL_SIDES, 0, bad[k].i, bad[k].j);
+        unrelated(LENT(square), bad[k].xy, MISONKANDI_REFUSAL_SIDES, 1, bad[k].i, bad[k].j);
+        unrelated(bad[k].xy, LENT(bow_tie), MISONKANDI_REFUSAL_SIDES, 0, bad[k].i, bad[k].j);
+    }
+}
+
+/* 21: a side of a and a side of b. */
+static void bad_across(void) {
+    static const int32_t crossing[] = {2, 2, 6, 2, 6, 3, 2, 3}, touching[] = {4, 2, 8, 2, 8, 5};
+    static const int32_t earlier[] = {6, 6, 2, 6, 3, -1, 6, -1}, within[] = {4, 1, 4, 3, 6, 2};
+    static const int32_t halved[] = {0, 0, 2, 0, 4, 0, 2, 3}, beyond[] = {4, -3, 4, 7, 8, 0};
+    unrelated(LENT(square), LENT(crossing), MISONKANDI_REFUSAL_SIDES_ACROSS, 2, 1, 0);
+    unrelated(LENT(crossing), LENT(square), MISONKANDI_REFUSAL_SIDES_ACROSS, 2, 0, 1);
+    unrelated(LENT(square), LENT(touching), MISONKANDI_REFUSAL_SIDES_ACROSS, 2, 1, 0); /* in a side's middle */
+    unrelated(LENT(square), LENT(earlier), MISONKANDI_REFUSAL_SIDES_ACROSS, 2, 0, 1);  /* by i first */
+    unrelated(LENT(square), LENT(within), MISONKANDI_REFUSAL_SIDES_ACROSS, 2, 1, 0);
+    unrelated(LENT(square), LENT(halved), MISONKANDI_REFUSAL_SIDES_ACROSS, 2, 0, 0); /* a's side is two of b's */
+    unrelated(LENT(square), LENT(beyond), MISONKANDI_REFUSAL_SIDES_ACROSS, 2, 0, 0);
+}
+
+static void two_outlines(void) {
+    static const int32_t within[] = {1, 1, 3, 1, 2, 3}, apart[] = {5, 0, 9, 0, 9, 4}, corner[] = {4, 4, 9, 4, 9, 7};
+    static const int32_t wall[] = {4, 0, 9, 0, 9, 4, 4, 4}, cut[] = {0, 0, 4, 0, 4, 2, 4, 4, 2, 4, 0, 4};
+    static const int32_t across[] = {2, 2, 4, 2, 6, 2, 6, 6, 2, 6, 2, 4}, small[] = {0, 0, 2, 0, 2, 2, 0, 2};
+    static const int32_t covering[] = {0, 0, 2, 0, 4, 0, 4, 4, 0, 4, 0, 2};
+    static const int32_t whole[] = {-MOST, -MOST, MOST, -MOST, MOST, MOST, -MOST, MOST};
+    static const int32_t slanted[] = {-MOST, -MOST, MOST, -MOST, MOST, MOST - 1};
+    static const int32_t near[] = {MOST - 1, MOST - 2, MOST - 2, 1 - MOST, MOST - 1, 1 - MOST};
+    no_outlines();
+    bad_within();
+    bad_across();
+    related(LENT(square), LENT(square), "2FFF1FFF2", 4);
+    related(LENT(square), LENT(within), "212FF1FF2", 0);
+    related(LENT(square), LENT(apart), "FF2FF1212", 0);
+    related(LENT(square), LENT(corner), "FF2F01212", 1);
+    related(LENT(square), LENT(wall), "FF2F11212", 2);
+    related(LENT(cut), LENT(across), "212101212", 2);
+    related(LENT(covering), LENT(small), "212F11FF2", 3);
+    related(LENT(whole), LENT(whole), "2FFF1FFF2", 4); /* directions of 2,000,000,000 */
+    related(LENT(slanted), LENT(near), "212FF1FF2", 0); /* 1/2,000,000,000 from the long side */
+    related(LENT(saw), LENT(saw), "2FFF1FFF2", 64);
+    related(LENT(saw), LENT(above), "FF2FF1212", 0); /* the most bytes, 4,992 */
+}
+
 /* ---- Shapes as text ---- */
 
 /* A text that is refused: its word, and what it was lent as it was but for the whole place. */
@@ -1086,7 +1258,7 @@ static lendings all_lent(int k) {
     memset(&state, 0, sizeof state);
     l.state = &state, l.ten = ten;
     l.cells = cells, l.text = text, l.labels = labels, l.buffer = buffer, l.bytes = bytes;
-    l.xy = numbers_of(calls[k].given), l.corners = corners, l.answer = answer;
+    l.xy = numbers_of(calls[k].given), l.other = above, l.corners = corners, l.answer = answer;
     l.count = write_given(calls[k].given, bytes), l.room = sizeof buffer;
     memcpy(cells, start, 9);
     return l;
@@ -1175,6 +1347,7 @@ int main(void) {
     floors();
     traced();
     outlines();
+    two_outlines();
     shapes();
     larger();
     stack();

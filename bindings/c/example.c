@@ -1,6 +1,6 @@
 /* A plan record from bytes to nine letters, a predicate by its row and one by its name, a refused pattern, one pattern
  * asked of many rooms, a floor of records in one call and in pieces, which record made a cell, points in an outline,
- * shapes read from text and written back, and region names. */
+ * two outlines and the records of both, shapes read from text and written back, and region names. */
 #include "misonkandi.h"
 #include <stdio.h>
 #include <string.h>
@@ -99,6 +99,39 @@ static void tell_point(int32_t x, int32_t y) {
         printf("(%ld, %ld) refused %u\n", (long)x, (long)y, (unsigned)MISONKANDI_NUMBER(word));
 }
 
+/* A room against another outline: their matrix and how many records it is poured from, or what is wrong with them. */
+static void tell_rooms_of(const int32_t *other, size_t numbers) {
+    static const int32_t room[] = {0, 0, 10, 0, 10, 6, 0, 6};
+    static const char *const where[] = {"of the first", "of the second", "across"};
+    uint8_t cells[MISONKANDI_CELLS], text[MISONKANDI_CELLS], records[MISONKANDI_MOST_COMMISSION_BYTES];
+    uint8_t poured[MISONKANDI_CELLS] = MISONKANDI_START;
+    uint64_t answer[3], floor[2];
+    uint32_t word = misonkandi_relate_outlines(room, 8, other, numbers, cells, answer), count;
+    if (MISONKANDI_REFUSED(word)) {
+        printf("outlines refused %u: %s", (unsigned)MISONKANDI_NUMBER(word), where[answer[0]]);
+        if (MISONKANDI_NUMBER(word) >= MISONKANDI_REFUSAL_SIDES)
+            printf(", sides %lu and %lu", (unsigned long)answer[1], (unsigned long)answer[2]);
+        printf("\n");
+        return;
+    }
+    count = misonkandi_commission(room, 8, other, numbers, records, sizeof records, 0);
+    if (MISONKANDI_REFUSED(count) || misonkandi_floor(poured, records, count, floor) != 0) return;
+    if (memcmp(cells, poured, sizeof cells) != 0) return;
+    misonkandi_to_text(cells, text);
+    printf("outlines %.9s, from %lu records of %u bytes\n", (const char *)text, (unsigned long)floor[1],
+           (unsigned)count);
+}
+
+static void tell_outlines(void) {
+    static const int32_t next_door[] = {10, 0, 16, 0, 16, 6, 10, 6}; /* they share a wall */
+    static const int32_t cover[] = {5, 2, 12, 2, 12, 4, 5, 4};       /* through a wall that has no corner there */
+    static const int32_t bow_tie[] = {1, 1, 4, 4, 4, 1, 1, 4};
+    tell_rooms_of(next_door, 8);
+    tell_rooms_of(cover, 8);
+    tell_rooms_of(bow_tie, 8);
+    tell_rooms_of(bow_tie, 4);
+}
+
 /* A shape's text from a plan tool, as it is written back. */
 static void tell_text(const char *text) {
     int32_t xy[2 * MISONKANDI_MOST_CORNERS];
@@ -167,6 +200,7 @@ int main(void) {
     tell_point(5, 5); /* in the notch */
     tell_point(8, 6);
     tell_point(2000000000, 3);
+    tell_outlines();
     tell_text("polygon((0 0,10 0,10 6,-0 06,0 0))");
     tell_text("LINESTRING()");
     tell_text("LINESTRING(1 2)");

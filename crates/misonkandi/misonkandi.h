@@ -1,7 +1,8 @@
 /* Misonkandi for C: DE-9IM matrices, their eleven predicates and patterns, one pattern asked of many matrices, and
  * what fills a matrix: plan records, the ends at a node, points and boxes, stored reports; whole floors of records, in
- * one call or in pieces; which record made a cell; a point in an outline; shapes as WKT text; and Egenhofer's region
- * names. `sh tools/library.sh` builds the library for the processor at hand, target/native/libmisonkandi.a.
+ * one call or in pieces; which record made a cell; a point in an outline, and two outlines; shapes as WKT text; and
+ * Egenhofer's region names. `sh tools/library.sh` builds the library for the processor at hand,
+ * target/native/libmisonkandi.a.
  *
  * Every function of the library is proved to answer what its contract says, for all bytes and numbers that it can be
  * given; this header says the same in words. Two duties are left to the caller:
@@ -16,12 +17,12 @@
  * floor that comes in pieces is kept in a misonkandi_pieces of the caller's), so any threads may call at once, each on
  * bytes of its own. Of the C library no more is needed than memcpy, memmove and memset.
  *
- * Stack: MISONKANDI_STACK_BYTES are enough for any call. Those that read a node take most, whatever it is, and with 600
- * ends misonkandi_push about 17,100 bytes, misonkandi_floor, misonkandi_record and misonkandi_convert_record 17,000,
- * misonkandi_star 16,800; misonkandi_write_wkt takes 1,900, misonkandi_read_wkt 1,700, each other that reads no node less
- * than 400: measured on aarch64, on a painted stack (bindings/c/run.sh, which fails at more than
- * MISONKANDI_STACK_BYTES). On x86-64 earlier forms took up to half as much again. Only merging ends leads back to
- * itself, at most ten deep.
+ * Stack: MISONKANDI_STACK_BYTES are enough for any call. misonkandi_relate_outlines takes most, about 24,300 bytes: it
+ * keeps 8,832 bytes of records, and reads them. Others that read a node take up to 16,300 with 600 ends, 15,500 with few.
+ * misonkandi_commission takes 9,500, misonkandi_write_wkt 1,900, misonkandi_read_wkt 1,700, each other that reads no node
+ * less than 400: measured on aarch64, on a painted stack (bindings/c/run.sh, which fails at more than
+ * MISONKANDI_STACK_BYTES). On x86-64, emulated, those of more than 2,000 bytes took up to 200 more. Only merging ends
+ * leads back to itself, at most ten deep.
  */
 #ifndef MISONKANDI_H
 #define MISONKANDI_H
@@ -43,10 +44,12 @@ extern "C" {
 /* ---- Answers and refusals ----
  *
  * An answer is one word below 2^31. A refusal is 2^31 + 256 * number + place. A call that answers more than a word is
- * lent an array of numbers for it, `answer`: so misonkandi_read_wkt, misonkandi_floor and misonkandi_finish.
+ * lent an array of numbers for it, `answer`: so misonkandi_read_wkt, misonkandi_relate_outlines, misonkandi_floor and
+ * misonkandi_finish.
  *
  * A refused call leaves every byte that it was lent as it was, but for these. Refused, misonkandi_read_wkt writes the
- * whole place into answer[2]. Of a floor it is a record that is refused, and that record changes nothing: the cells, or
+ * whole place into answer[2], and misonkandi_relate_outlines which outline and which pair of sides into all three
+ * numbers of its answer. Of a floor it is a record that is refused, and that record changes nothing: the cells, or
  * the state, hold the records before it, and both numbers of the answer are written.
  *
  * An accepted call that writes cells writes all nine, each 0 to 3: no larger number is left, but where a floor has no
@@ -86,6 +89,8 @@ enum misonkandi_refusals {
     MISONKANDI_REFUSAL_OUT_OF_RANGE = 17,   /* coordinate of a corner or of the point beyond 1,000,000,000 in size */
     MISONKANDI_REFUSAL_EQUAL_CORNERS = 18,  /* two equal neighbouring corners of an outline, last and first included */
     MISONKANDI_REFUSAL_BAD_TEXT = 19,       /* no WKT text; the place is where none could go on */
+    MISONKANDI_REFUSAL_SIDES = 20,          /* pair of sides in one outline that meet as they may not */
+    MISONKANDI_REFUSAL_SIDES_ACROSS = 21,   /* pair of sides of two outlines that meet as they may not */
     MISONKANDI_REFUSAL_RING_OPEN = 22       /* ring of a WKT text whose last pair isn't its first */
 };
 
@@ -322,6 +327,31 @@ uint32_t misonkandi_region_named(const uint8_t *name, size_t count);
 /* Where the point (x, y) lies against the outline: MISONKANDI_INSIDE, _ON_BOUNDARY or _OUTSIDE, or refusal 16, 17 or
  * 18. The count is of numbers, twice that of corners. */
 uint32_t misonkandi_point_in_outline(const int32_t *xy, size_t numbers, int32_t x, int32_t y);
+
+/* ---- Two outlines ----
+ *
+ * Two outlines that are simple and cut at each other. In one outline neighbouring sides share one end and nothing more,
+ * and other sides are apart; two sides of different outlines are apart, share one end and nothing more, or coincide.
+ * Side k leaves corner k, counted from 0. Counts are of numbers, twice those of corners.
+ *
+ * Checked in this order: 16, 17, 18 of a, then of b; 20 of a, else of b; 21.
+ */
+
+/* The matrix of a and b: 0, and the nine cells written. Or a refusal: the cells stay as they were, and answer[0] says
+ * which (0 for a, 1 for b, 2 for a pair across), answer[1] and answer[2] the first pair of sides i and j by i, then j, i
+ * below j within one outline; 0 and 0 for 16, 17 and 18. Where it isn't refused the answer stays as it was. */
+uint32_t misonkandi_relate_outlines(const int32_t *a, size_t a_numbers, const int32_t *b, size_t b_numbers,
+                                    uint8_t cells[9], uint64_t answer[3]);
+
+/* Room enough for the records of any two outlines: 128 nodes of 69 bytes. */
+#define MISONKANDI_MOST_COMMISSION_BYTES 8832
+
+/* Writes the plan records that the matrix is poured from into a buffer of `room` bytes from `offset` on: the bytes
+ * written, at most MISONKANDI_MOST_COMMISSION_BYTES, every other byte as it was. They are nodes of version 1, one for each
+ * distinct corner: a's in order, then b's that a hasn't. Or a refusal and no byte written: as above, then 12 if the offset
+ * lies beyond the buffer or fewer bytes follow it than the records have. */
+uint32_t misonkandi_commission(const int32_t *a, size_t a_numbers, const int32_t *b, size_t b_numbers, uint8_t *buffer,
+                               size_t room, size_t offset);
 
 /* ---- Shapes as text ----
  *

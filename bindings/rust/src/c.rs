@@ -171,6 +171,23 @@ mod declared {
             offset: usize,
         ) -> u32;
         pub fn misonkandi_point_in_outline(xy: *const i32, numbers: usize, x: i32, y: i32) -> u32;
+        pub fn misonkandi_relate_outlines(
+            a: *const i32,
+            a_numbers: usize,
+            b: *const i32,
+            b_numbers: usize,
+            cells: &mut [u8; 9],
+            answer: &mut [u64; 3],
+        ) -> u32;
+        pub fn misonkandi_commission(
+            a: *const i32,
+            a_numbers: usize,
+            b: *const i32,
+            b_numbers: usize,
+            buffer: *mut u8,
+            room: usize,
+            offset: usize,
+        ) -> u32;
         pub fn misonkandi_read_wkt(
             text: *const u8,
             count: usize,
@@ -356,6 +373,32 @@ pub fn convert_record(bytes: &[u8], buffer: &mut [u8], offset: usize) -> u32 {
 pub fn point_in_outline(xy: &[i32], x: i32, y: i32) -> u32 {
     // SAFETY: pointer and count are those of one slice, lent to be read until the call ends.
     unsafe { declared::misonkandi_point_in_outline(xy.as_ptr(), xy.len(), x, y) }
+}
+
+pub fn relate_outlines(a: &[i32], b: &[i32], cells: &mut [u8; 9], answer: &mut [u64; 3]) -> u32 {
+    let (start, numbers) = (b.as_ptr(), b.len());
+    // SAFETY: each pointer and count are those of one slice, lent to be read until the call ends; both arrays lie
+    // elsewhere.
+    unsafe {
+        declared::misonkandi_relate_outlines(a.as_ptr(), a.len(), start, numbers, cells, answer)
+    }
+}
+
+pub fn commission(a: &[i32], b: &[i32], buffer: &mut [u8], offset: usize) -> u32 {
+    let (start, room) = (buffer.as_mut_ptr(), buffer.len());
+    // SAFETY: each pointer and count are those of one slice. The numbers are lent to be read until the call ends, the
+    // buffer is lent to nobody else until then, and so lies elsewhere.
+    unsafe {
+        declared::misonkandi_commission(
+            a.as_ptr(),
+            a.len(),
+            b.as_ptr(),
+            b.len(),
+            start,
+            room,
+            offset,
+        )
+    }
 }
 
 pub fn read_wkt(text: &[u8], xy: &mut [i32; 128], answer: &mut [u64; 3]) -> u32 {

@@ -23,8 +23,9 @@
 //!
 //! [`Masks`] asks one pattern of many matrices. [`floor`] pours a whole floor of records in one call, and [`Pieces`] one
 //! that comes in pieces. [`Traced`] is a matrix that says which record made each cell. [`Outline`] says where
-//! a point lies against a room's walls. [`Shape`] is a point, a line or a polygon, read from WKT text and written as such.
-//! [`Region`] is Egenhofer's name of a matrix or of two boxes.
+//! a point lies against a room's walls, and [`Outline::relate`] how the insides, walls and outsides of two rooms meet.
+//! [`Shape`] is a point, a line or a polygon, read from WKT text and written as such. [`Region`] is Egenhofer's name of a
+//! matrix or of two boxes.
 //!
 //! What differs from geo: a refusal is a number and a place, not a text; a bad letter of a pattern is refused on every
 //! matrix; raising from text is all or nothing; any line on a geometry's boundary collapses it at a node, not only the
@@ -48,6 +49,7 @@ mod floor;
 mod masks;
 mod matrix;
 mod outline;
+mod outlines;
 mod place;
 mod positions;
 mod predicate;
@@ -66,6 +68,9 @@ pub use floor::{Floor, PIECES_BYTES, Pieces, floor};
 pub use masks::Masks;
 pub use matrix::IntersectionMatrix;
 pub use outline::{Outline, point_in_outline};
+pub use outlines::{
+    MOST_COMMISSION_BYTES, OutlinesRefusal, Which, commission_outlines, relate_outlines,
+};
 pub use place::{Coord, Place, relate_coded};
 pub use positions::{CoordPos, Dimensions};
 pub use predicate::{NoSuchPredicate, Predicate};

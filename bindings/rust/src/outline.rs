@@ -1,4 +1,4 @@
-//! A point in an outline.
+//! A point in an outline. Two outlines are in outlines.rs.
 
 use core::fmt;
 

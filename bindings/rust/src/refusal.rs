@@ -9,7 +9,8 @@ use crate::c;
 /// the records before it stay.
 ///
 /// The numbers are those of document 01's table "Numbers the caller sees"; 14 is request R-3's of document 02, 15 is R-7's,
-/// 16 to 18 are R-8's, 19 and 22 R-9's. Under which condition each is given, and in which order they are looked at, is
+/// 16 to 18 are R-8's, 19 and 22 R-9's. R-10's 20 and 21, which have a pair of sides beside them, are cases of
+/// [`OutlinesRefusal`](crate::OutlinesRefusal). Under which condition each is given, and in which order they are looked at, is
 /// proved of the operation that gives it: `crates/de9im/specs/Patterns.antt` and `Text.antt` for 10 and 11,
 /// `crates/plan/specs/Record.antt` and `Floor.antt` for records, `crates/traced/specs/Record.antt` for 15,
 /// `crates/report/specs/Report.antt` and `Converting.antt` for reports, `crates/star/specs/Calls.antt` for ends,

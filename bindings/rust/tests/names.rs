@@ -4,9 +4,10 @@ use std::collections::BTreeSet;
 use std::fs;
 
 use misonkandi::{
-    CoordPos, Dimensions, END_BYTES, LABEL_BYTES, MOST_CONVERTED_BYTES, MOST_CORNERS, MOST_ENDS,
-    MOST_ENDS_OF_VERSION_1, MOST_RECORD_BYTES, MOST_WKT_BYTES, NoSuchPredicate, PIECES_BYTES,
-    Predicate, REPORT_BYTES, Refusal, SHORT_REPORT_BYTES, ShapeKind,
+    CoordPos, Dimensions, END_BYTES, LABEL_BYTES, MOST_COMMISSION_BYTES, MOST_CONVERTED_BYTES,
+    MOST_CORNERS, MOST_ENDS, MOST_ENDS_OF_VERSION_1, MOST_RECORD_BYTES, MOST_WKT_BYTES,
+    NoSuchPredicate, OutlinesRefusal, PIECES_BYTES, Predicate, REPORT_BYTES, Refusal,
+    SHORT_REPORT_BYTES, ShapeKind, Which,
 };
 
 const FOLDER: &str = env!("CARGO_MANIFEST_DIR");
@@ -77,7 +78,7 @@ fn the_header_s_functions_are_the_crate_s() {
     let (header, crate_s) = (header(), read("src/c.rs"));
     let names = declared(&header);
     assert_eq!(names, declared(&crate_s));
-    assert_eq!(names.len(), 44);
+    assert_eq!(names.len(), 46);
 }
 
 /// The lines between the braces of a struct, without what is said of them.
@@ -197,6 +198,16 @@ fn the_header_s_numbers_are_the_crate_s() {
         let name = format!("REFUSAL_{name}");
         assert_eq!(value(&name), u64::from(refusal.number()));
     }
+    let sides = OutlinesRefusal::Sides {
+        of: Which::A,
+        first: 0,
+        second: 2,
+    };
+    let across = OutlinesRefusal::SidesAcross { a: 0, b: 2 };
+    for (name, refusal) in [("SIDES", sides), ("SIDES_ACROSS", across)] {
+        let name = format!("REFUSAL_{name}");
+        assert_eq!(value(&name), u64::from(refusal.number()));
+    }
     let kinds = [
         ("POINT", ShapeKind::Point),
         ("LINESTRING", ShapeKind::LineString),
@@ -209,6 +220,7 @@ fn the_header_s_numbers_are_the_crate_s() {
     let sizes = [
         ("LABEL_BYTES", LABEL_BYTES),
         ("END_BYTES", END_BYTES),
+        ("MOST_COMMISSION_BYTES", MOST_COMMISSION_BYTES),
         ("MOST_CONVERTED_BYTES", MOST_CONVERTED_BYTES),
         ("MOST_CORNERS", MOST_CORNERS),
         ("MOST_ENDS", MOST_ENDS),

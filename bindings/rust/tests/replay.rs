@@ -5,10 +5,11 @@ use std::collections::BTreeMap;
 use std::fs;
 
 use misonkandi::{
-    CoordPos, END_BYTES, EdgeEnd, IntersectionMatrix, LABEL_BYTES, Label, Masks, Outline, Pieces,
-    Place, Predicate, Refusal, Region, Shape, ShapeKind, Traced, Verdict, bundle, bundle_of_bytes,
-    convert_record, convert_report, floor, point_in_outline, read_wkt, relate_coded, star,
-    star_of_bytes, write_star, write_wkt,
+    CoordPos, END_BYTES, EdgeEnd, IntersectionMatrix, LABEL_BYTES, Label, Masks, Outline,
+    OutlinesRefusal, Pieces, Place, Predicate, Refusal, Region, Shape, ShapeKind, Traced, Verdict,
+    Which, bundle, bundle_of_bytes, commission_outlines, convert_record, convert_report, floor,
+    point_in_outline, read_wkt, relate_coded, relate_outlines, star, star_of_bytes, write_star,
+    write_wkt,
 };
 
 const FOLDER: &str = concat!(env!("CARGO_MANIFEST_DIR"), "/../../crates/replay/");
@@ -467,6 +468,42 @@ fn outline_case(case: &Case) {
     }
 }
 
+/// The three numbers beside a refused pair: which outline, 2 for a pair across, and two sides.
+fn told_of(refusal: OutlinesRefusal) -> [u64; 3] {
+    let which = match refusal.which() {
+        Some(Which::A) => 0,
+        Some(Which::B) => 1,
+        None => 2,
+    };
+    let (i, j) = refusal.sides().unwrap_or((0, 0));
+    [which, i as u64, j as u64]
+}
+
+/// o, c: the numbers of A, as many as a says, then those of B. Due are the cells and three numbers that were nines, or a
+/// buffer that was nines, written from b on. As numbers and, where both are outlines, as such.
+fn outlines_case(kind: char, case: &Case) {
+    let xy = numbers_of(&case.given);
+    let (a, b) = xy.split_at(xy.len().min(case.a as usize));
+    let refused = |refusal: OutlinesRefusal| (1 << 31) + 256 * refusal.number();
+    let outlines = [a, b].map(|xy| corners_of(xy).and_then(|corners| Outline::new(&corners).ok()));
+    let related = relate_outlines(a, b);
+    if let [Some(a), Some(b)] = &outlines {
+        assert_eq!(a.relate(b), related);
+    }
+    if kind == 'o' {
+        let (word, cells, told) = match related {
+            Ok(matrix) => (0, matrix.cells(), [9; 3]),
+            Err(refusal) => (refused(refusal), case.cells, told_of(refusal)),
+        };
+        assert_eq!(word, case.word);
+        return case.holds(&[&cells, told.map(u64::to_be_bytes).as_flattened()].concat());
+    }
+    let mut buffer = [9; 600];
+    let answer = commission_outlines(a, b, &mut buffer, case.b as usize);
+    assert_eq!(answer.map_or_else(refused, |used| used as u32), case.word);
+    case.holds(&buffer);
+}
+
 /// J: a text read. What is due is what stands in three answers of eight bytes and 128 numbers that were nines before
 /// the call. A refused one leaves them, but for the last answer: the whole place.
 fn read_case(case: &Case) {
@@ -526,6 +563,7 @@ fn every_stored_answer() {
             'x' | 'f' | 't' => traced_case(kind, &case),
             'G' => place_case(&case),
             'I' => outline_case(&case),
+            'o' | 'c' => outlines_case(kind, &case),
             'J' => read_case(&case),
             'U' => write_case(&case),
             'r' | 'h' | 'n' | 'g' => region_case(kind, &case),
@@ -538,7 +576,7 @@ fn every_stored_answer() {
     }
     assert_eq!(
         seen.len(),
-        36,
+        38,
         "a kind of line for each call of the library, one for the three of a floor in pieces and three for rooms"
     );
     // No line was passed over: the replay of the C interface has the same number.

@@ -1,5 +1,6 @@
 -- Words tell answers apart: two answers with one word are one answer, a refusal's word is no answer's, and the word for no such row is
--- neither's. Places below 256 and numbers below 2^31 are what they ask; the calls' are (LawsFit.antt). Assumes nothing.
+-- neither's. Places below 256 and numbers below 2^31 are what they ask; the calls' are (LawsFit.antt). The words of two outlines are in
+-- LawsTold.antt of `commission`. Assumes nothing.
 use Prim.Native.Nat.{ℕ, _+_, _*_, _≤_, _<_}
 use mathlib.Core.Path.{_≡_, refl, sym, ap, _∙_}
 use mathlib.Core.List.{List, [], _∷_}

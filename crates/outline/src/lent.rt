@@ -9,6 +9,7 @@ use crate::side::Seen;
 use crate::side::level;
 use crate::side::pass;
 use crate::side::pass_level;
+use de9im::answer::Checked;
 use de9im::coordinate_position::CoordPos;
 use de9im::refusal::Refusal;
 ghost use Prim.Native.Nat.{_<_, _≤_, _/_};
@@ -17,9 +18,10 @@ ghost use mathlib.Core.Path.{_≡_};
 ghost use lib.ListN.{length, take};
 ghost use Rattle.outline.specs.Corners.{farCorner, someFar};
 ghost use Rattle.outline.specs.Sides.{sides, someOf, equalEnds};
-ghost use Rattle.outline.specs.Position.{placeOf};
+ghost use Rattle.outline.specs.Position.{placeOf, positionOf};
 ghost use Rattle.outline.specs.Answer.{wrongCount};
 ghost use Rattle.outline.specs.Lent.{cornersIn, lentOf, numbersOver};
+ghost use Rattle.outline.specs.Alone.{lentAlone};
 ghost use Rattle.outline.specs.Inner.Walk.{farAmong, seenOf};
 
 // x and y of each corner in turn, over the front of the numbers held.
@@ -111,6 +113,34 @@ fn place(on: bool, odd: bool) -> CoordPos
         return CoordPos::Inside;
     }
     CoordPos::Outside
+}
+
+// The refusals of an outline alone, without a point.
+pub fn outline_fault(xy: &[i32]) -> Checked
+    ensures { λ r. ⌜ r ≡ lentAlone (now (xy .entry)) ⌝ }
+{
+    if xy.len() % 2 != 0 {
+        return Checked::Refused(Refusal::CornerCount);
+    }
+    if wrong_count(xy.len() / 2) {
+        return Checked::Refused(Refusal::CornerCount);
+    }
+    if some_far(xy) {
+        return Checked::Refused(Refusal::OutOfRange);
+    }
+    if some_equal(xy) {
+        return Checked::Refused(Refusal::EqualCorners);
+    }
+    Checked::Fine
+}
+
+// The position against an outline that is checked already, of a point in range.
+pub fn position_in(xy: &[i32], p: Corner) -> CoordPos
+    requires { ⌜ (0 < length (now xy) / 2) × (someFar (cornersIn (now xy)) ≡ false) × (farCorner p ≡ false) ⌝ }
+    ensures { λ r. ⌜ r ≡ positionOf (cornersIn (now (xy .entry))) p ⌝ }
+{
+    let s = look(xy, p);
+    place(s.on, s.odd)
 }
 
 pub fn position_lent(xy: &[i32], p: Corner) -> Located

@@ -2,4 +2,4 @@
 pub mod corners;
 pub mod lent;
 pub mod position;
-pub(crate) mod side;
+pub mod side;

@@ -15,7 +15,7 @@ pub(crate) struct Seen {
 }
 
 // Both within ±1,000,000,000, so the difference fits.
-fn minus(a: i32, p: i32) -> i32
+pub fn minus(a: i32, p: i32) -> i32
     requires { ⌜ (farZ a ≡ false) × (farZ p ≡ false) ⌝ }
     ensures { λ r. ⌜ r ≡ a -ℤ p ⌝ }
 {
@@ -29,7 +29,7 @@ fn times(a: i32, b: i32) -> i64
     (a as i64) * (b as i64)
 }
 
-fn half(p: Corner, a: Corner, b: Corner) -> i64
+pub fn half(p: Corner, a: Corner, b: Corner) -> i64
     requires { ⌜ (farCorner p ≡ false) × (farCorner a ≡ false) × (farCorner b ≡ false) ⌝ }
     ensures { λ r. ⌜ r ≡ across p a b ⌝ }
 {
@@ -43,13 +43,13 @@ fn between(a: i32, p: i32, b: i32) -> bool
 }
 
 // Between the ends along x, and along y.
-fn abreast(p: Corner, a: Corner, b: Corner) -> bool
+pub fn abreast(p: Corner, a: Corner, b: Corner) -> bool
     ensures { λ r. ⌜ r ≡ betweenZ (a .x) (p .x) (b .x) ⌝ }
 {
     between(a.x, p.x, b.x)
 }
 
-pub(crate) fn level(p: Corner, a: Corner, b: Corner) -> bool
+pub fn level(p: Corner, a: Corner, b: Corner) -> bool
     ensures { λ r. ⌜ r ≡ betweenZ (a .y) (p .y) (b .y) ⌝ }
 {
     between(a.y, p.y, b.y)

@@ -4,6 +4,7 @@
 use crate::floor_calls;
 use crate::matrix_calls;
 use crate::outline_calls;
+use crate::pair_calls;
 use crate::plan_calls;
 use crate::region_calls;
 use crate::room_calls;
@@ -92,8 +93,8 @@ fn count(c: Case) -> usize
     least((256 * wide(c[22]) + wide(c[23])) as usize, 600)
 }
 
-// How many bytes a call may write: a label, a star's labels, cells and two answers, a traced matrix alone and with them, a text's answers
-// and numbers, eleven verdicts, a buffer within n bytes, or nine cells or letters.
+// How many bytes a call may write: a label, a star's labels, cells and two answers, cells and three, a traced matrix alone and with two,
+// a text's answers and numbers, eleven verdicts, a buffer, one within n bytes, or nine cells or letters.
 fn room(letter: u8, n: usize) -> usize
     requires { ⌜ n ≤ 600 ⌝ }
     ensures { λ r. ⌜ n + r ≤ 1256 ⌝ }
@@ -102,10 +103,12 @@ fn room(letter: u8, n: usize) -> usize
         b'B' => 7,
         b'K' => 224,
         b'A' | b'Y' => 25,
+        b'o' => 33,
         b'x' | b't' => 49,
         b'f' => 65,
         b'J' => 536,
         b'v' => 11,
+        b'c' => 600,
         b'U' | b'Z' => n,
         b'E' | b'F' | b'C' | b'n' => least(n, 100),
         _ => 9,
@@ -138,6 +141,8 @@ fn asked(letter: u8, h: Head, given: &[u8], due: &[u8]) -> bool {
         b't' => traced_calls::transpose(h, given, due),
         b'D' => plan_calls::read_report(h, given, due),
         b'I' => outline_calls::point_in_outline(h, given),
+        b'o' => pair_calls::relate_outlines(h, given, due),
+        b'c' => pair_calls::commission(h, given, due),
         b'J' => shape_calls::read_wkt(h, given, due),
         b'm' => room_calls::masks(h, given),
         b'p' => room_calls::packed(h, due),

@@ -5,6 +5,7 @@ mod case;
 mod floor_calls;
 mod matrix_calls;
 mod outline_calls;
+mod pair_calls;
 mod plan_calls;
 mod region_calls;
 mod room_calls;

@@ -8,7 +8,7 @@ use crate::plan_calls::offset_of;
 ghost use Prim.Native.Nat.{_≤_};
 ghost use lib.ListN.{length};
 
-fn same_answer(answer: [u64; 3], due: &[u8]) -> bool
+pub(crate) fn same_answer(answer: [u64; 3], due: &[u8]) -> bool
     requires { ⌜ 24 ≤ length (now due) ⌝ }
 {
     (answer[0] == eight(due, 0)) & (answer[1] == eight(due, 8)) & (answer[2] == eight(due, 16))

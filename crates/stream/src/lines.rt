@@ -63,7 +63,7 @@ fn push_last(out: &mut [u8], at: usize, m: IntersectionMatrix) -> usize
     push_line(out, d, Predicate::Overlaps, m)
 }
 
-fn write_answers(cells: Cells, out: &mut [u8]) -> usize
+pub fn write_answers(cells: Cells, out: &mut [u8]) -> usize
     requires { ⌜ 256 ≤ length (now out) ⌝ }
     ensures { λ r. ⌜ (r ≤ 256) × (take r (now (out .exit)) ≡ answersOf cells) ⌝ }
 {

@@ -63,7 +63,7 @@ pub same-start : flipped (cellsOf startMatrix) ≡ cellsOf startMatrix
 same-start = refl
 
 -- what is poured the other way round into flipped numbers leaves flipped numbers
-poured-flipped : {ns : List ℕ} {c d : ℕ → ℕ → ℕ} {ms ps : List ℕ} → Poured ns c ms → Poured (flipped ns) d ps
+pub poured-flipped : {ns : List ℕ} {c d : ℕ → ℕ → ℕ} {ms ps : List ℕ} → Poured ns c ms → Poured (flipped ns) d ps
     → ((i j : ℕ) → d i j ≡ c j i) → ps ≡ flipped ms
 poured-flipped {ns} {c} {d} {ms} {ps} p q f =
     q .cells ∙

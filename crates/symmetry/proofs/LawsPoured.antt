@@ -2,6 +2,7 @@
 -- change places. Assumes nothing.
 use Prim.Native.Nat.{ℕ, _+_, _*_, _≤_, _<_, min, max}
 use mathlib.Core.Path.{_≡_, refl, sym, ap, _∙_}
+use mathlib.Core.Bool.{false}
 use mathlib.Core.List.{List}
 use native.Mathlib.Omega.{arith}
 use lib.ListN.{getD}
@@ -11,10 +12,12 @@ use Rattle.de9im.specs.Matrix.{Matrix, cellAt}
 use Rattle.de9im.proofs.LawsDimension.{dim-small}
 use Rattle.de9im.proofs.LawsForms.{matrix-shaped}
 use Rattle.de9im.proofs.LawsPatterns.{cells-at}
+use Rattle.ends.specs.declared.«edge_end».EdgeEnd.{EdgeEnd}
 use Rattle.ends.specs.declared.label.Label.{Label}
 use Rattle.ends.specs.Star.{joinedOf}
 use Rattle.star.specs.declared.pouring.Node.{Node}
-use Rattle.walks.specs.Completing.{completedOf}
+use Rattle.star.specs.Calls.{pouredStar}
+use Rattle.walks.specs.Completing.{missingLeft, completedOf}
 use Rattle.walks.specs.Pouring.{pourNode, pourLabel, pourLabels, into, labelInto, labelsInto}
 use Rattle.walks.proofs.LawsPouring.{numberIn, raise-cell, raise-shape, label-cell, labels-cell}
 use Rattle.frame.specs.Read.{good}
@@ -79,11 +82,16 @@ star-poured ns n ls =
           );
     }
 
+-- a star that lacks no left
+pub node-poured : (ns : List ℕ) (n : Node) (es : List EdgeEnd) → missingLeft (joinedOf es) ≡ false
+    → Poured ns (saidInto (node n es)) (pouredStar ns n es .cells)
+node-poured ns n es m =
+    let p = star-poured ns n (completedOf (n .«area_a») (n .«area_b») (joinedOf es)) in
+    record { matrix = p .matrix; cells = poured-node ns n es m ∙ p .cells; raised = p .raised }
+
 pub said-poured : (s : List ℕ) (x : Said) → saidOf s ≡ good x → (ns : List ℕ) → Poured ns (saidInto x) (pourSaid ns x)
 said-poured s (edge l) e ns = label-poured ns l
-said-poured s (node n es) e ns =
-    let p = star-poured ns n (completedOf (n .«area_a») (n .«area_b») (joinedOf es)) in
-    record { matrix = p .matrix; cells = poured-node ns n es (has-lefts s n es e) ∙ p .cells; raised = p .raised }
+said-poured s (node n es) e ns = node-poured ns n es (has-lefts s n es e)
 
 -- a cell of what was poured, and it is no more than 3
 poured-at : {ns : List ℕ} {c : ℕ → ℕ → ℕ} {ms : List ℕ} (p : Poured ns c ms) (i j : ℕ) → i < 3 → j < 3
