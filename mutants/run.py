@@ -109,8 +109,12 @@ def must_fail_texts(crate):
 # What the prover says of a need that it was to close by itself.
 OPEN = re.compile(r"^note: \S+/src/(\S+): (it is not proved that .*)$", re.M)
 
-# An error in the proof of a function's need, and the lines that belong to it.
-ERROR = re.compile(r"^\S+/(?P<fn>\w+)/Proof\.antt:\d+:\d+: error: (?P<need>`[^`]*`): (?P<said>.*(?:\n  .*)*)", re.M)
+# An error in the proof of a function's need, or in a law, which fails where a definition is what was changed; and the
+# lines that belong to it.
+ERROR = re.compile(
+    r"^\S+/(?:(?P<fn>\w+)/Proof|proofs/(?P<law>\w+))\.antt:\d+:\d+: error: (?P<need>`[^`]*`): (?P<said>.*(?:\n  .*)*)",
+    re.M,
+)
 
 # A search finds nothing, too, where what it was to use couldn't be read: then it isn't counted.
 SEARCH = r"^`search`: no proof of"
@@ -123,6 +127,7 @@ FACTS = [
     (r"before the equations had joined", "the equations don't join"),
     (r"must be a path whose two ends are equal", "two sides stay different"),
     (r"the two types (are|differ|first differ)", "another fact than the one asked for"),
+    (r"the two sides (differ|first differ)", "two sides stay different"),
     (r"`: does not hold \(", "an equation does not hold"),
 ]
 
@@ -145,7 +150,7 @@ def why_not_proved(log):
         return "refused", f"{found[1]}: {found[2]}"
     failed, unread = [], []
     for error in ERROR.finditer(log):
-        fn, need, said = error["fn"], error["need"], error["said"]
+        fn, need, said = error["fn"] or error["law"], error["need"], error["said"]
         if "was not admitted" in said:
             continue
         words = [words for text, words in FACTS if re.search(text, said)]
