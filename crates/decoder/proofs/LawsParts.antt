@@ -1,14 +1,14 @@
 -- Of a direction's parts the words of 32 bits say what the signed numbers do. Assumes nothing.
 use Prim.Native.Nat.{ℕ, zero, suc, ◌+◌, ◌*◌, ◌-◌, ◌<◌, ◌≤◌}
-use mathlib.Core.Path.{◌≡◌, refl, sym, ap, ◌∙◌}
+use mathlib.Core.Path.{◌≡◌, refl, sym, ◌∙◌}
 use mathlib.Core.Bool.{Bool, true, false, cond, ◌&&◌, ◌||◌}
 use native.Mathlib.Omega.{arith}
 use native.Mathlib.Nat.{mul-pos}
 use borrow.Author.Tests.{ltb-true, ltb-false, lt-ltb, le-ltb, eqb-true, eqb-false, ne_eqb}
 use lib.Dec.{eqb, ltb}
-use lib.IntN.{ℤ, pos, negsuc, nat_abs}
+use lib.IntN.{pos, negsuc, nat_abs}
 use lib.Signed.{lt_z}
-use Rattle.de9im.proofs.LawsBool.{told, clash, neither, one_false}
+use Rattle.de9im.proofs.LawsBool.{told, clash, neither}
 use Rattle.ends.specs.Direction.{is_zero, zero_dir}
 use Rattle.ends.specs.Ends.{far, bad_dir}
 use Rattle.ends.specs.Inner.Axis.{one_of, on_axis, axis_no, axis_of}
@@ -60,13 +60,6 @@ module _ (w : ℕ) (h : w < 4294967296) where
     size_word_lem = halves w
         (λ k. rw (low w k, le-ltb 2000000000 w (near k)) refl)
         (λ k. rw (high w k h, lt-ltb 2000000000 w (omega arith)) (omega arith))
-
-pub size_small : (w : ℕ) → w < 4294967296 → size_word w ≤ 4294967296
-size_small w h = go (below_word w)
-  where
-    go : (t : Bool) → cond t (4294967296 - w) w ≤ 4294967296
-    go true = omega arith
-    go false = omega arith
 
 -- a good direction's parts
 module _ (x y : ℕ) (p : Parts x y) (g : bad_dir (dir_of x y) ≡ false) where

@@ -1,6 +1,6 @@
 -- From letters to masks: one more letter is one more cell of each, nine fit, and each bit is its letter's. Assumes nothing.
-use Prim.Native.Nat.{ℕ, ◌+◌, ◌/◌, ◌%◌, ◌^◌, ◌≤◌, ◌<◌}
-use mathlib.Core.Path.{◌≡◌, refl, ap, ap₂, ◌∙◌}
+use Prim.Native.Nat.{ℕ, ◌+◌, ◌%◌, ◌^◌, ◌≤◌, ◌<◌}
+use mathlib.Core.Path.{◌≡◌, refl, ap, ◌∙◌}
 use mathlib.Core.Bool.{Bool, true, false, not}
 use mathlib.Core.List.{List, [], ◌∷◌}
 use native.Mathlib.Nat.{pow-le-pow_right}
@@ -21,10 +21,9 @@ use Rattle.de9im.proofs.LawsEighteen.{below-small, cell-of}
 use Rattle.de9im.proofs.LawsForms.{nine-at}
 use Rattle.de9im.proofs.LawsLetters.{accepted-bit}
 use Rattle.predicates.proofs.LawsTerms.{four_cases}
-use Rattle.masks.specs.declared.patterns.Masked.{Masked}
 use Rattle.masks.specs.declared.planes.Planes.{Planes}
 use Rattle.predicates.specs.Eleven.{bit_of}
-use Rattle.masks.specs.Patterns.{plane, refused_at, mask_of, masks_of, four_zeros, masked_by, masked_of}
+use Rattle.masks.specs.Patterns.{plane, refused_at, mask_of, masks_of, four_zeros, masked_of}
 use Rattle.masks.specs.Engine.{refuses}
 use Rattle.masks.specs.Inner.Planes.{planes_to, planes_of, left_out, next_of, Narrow}
 use Rattle.masks.proofs.LawsPlanes.{bit-small, plane-same, plane-next}

@@ -1,16 +1,14 @@
 -- Each refusal in its turn, and the position after them; an outline is a list of corners. Assumes nothing.
 use Prim.Native.Nat.{ℕ, ◌≤◌, ◌<◌}
-use mathlib.Core.Path.{◌≡◌, refl, sym, ap, ◌∙◌}
+use mathlib.Core.Path.{◌≡◌, refl, ◌∙◌}
 use mathlib.Core.Bool.{Bool, true, false, cond, ◌||◌, or-true}
 use mathlib.Core.List.{List}
-use native.Mathlib.Omega.{arith}
 use borrow.Author.Tests.{ltb-false, lt-ltb, le-ltb}
 use lib.Dec.{ltb}
 use lib.ListN.{length, take}
-use lib.Seq.{length-take-le}
 use Rattle.de9im.specs.declared.refusal.Refusal.TheVariants.{CornerCount, OutOfRange, EqualCorners}
 use Rattle.de9im.specs.declared.refusal.Spot.TheVariants.{Nowhere}
-use Rattle.de9im.proofs.LawsBool.{told, neither}
+use Rattle.de9im.proofs.LawsBool.{neither}
 use Rattle.outline.specs.declared.corners.Corner.{Corner}
 use Rattle.outline.specs.declared.corners.Outline.{Outline}
 use Rattle.outline.specs.declared.position.Located.TheVariants.{Is, Refused}

@@ -18,14 +18,14 @@ use Rattle.de9im.specs.declared.refusal.Spot.{Spot}
 use Rattle.de9im.specs.declared.refusal.Spot.TheVariants.{Nowhere, At}
 use Rattle.de9im.specs.Answers.{answer_no, answer_place, used_of, checked_no, checked_place, bad_no}
 use Rattle.de9im.specs.Refused.{number_of, place_of, spot_no}
-use Rattle.de9im.specs.Text.{good_byte, first_bad, read_of}
+use Rattle.de9im.specs.Text.{good_byte, read_of}
 use Rattle.de9im.specs.EighteenBits.{unpacked_of}
 use Rattle.de9im.proofs.LawsApart.{nowhere-at}
 use Rattle.de9im.proofs.LawsBool.{told}
 use Rattle.de9im.proofs.LawsNear.{bad-within}
 use Rattle.de9im.proofs.LawsNumbers.{read_number, read-place}
 use Rattle.frame.specs.Read.{Read, good, bad, ◌>>=◌, read_as}
-use Rattle.report.specs.Report.{long_bytes, short_bytes, letters_of, bits_of, length_for, cells_said, report_said, report_as, read_report}
+use Rattle.report.specs.Report.{letters_of, bits_of, length_for, cells_said, report_said, report_as, read_report}
 use Rattle.report.specs.Converting.{other_form, other_bytes, wrote_as, convert_of}
 use Rattle.report.specs.ReportNumbers.{bad_place, somewhere, report_no, other_length, convert_no}
 use Rattle.frame.specs.Lent.{wrote_of, write_no}
@@ -35,7 +35,6 @@ use Rattle.de9im.proofs.LawsRefused.{some_number}
 use Rattle.frame.proofs.LawsLentNumbers.{write-number, write-used, write-place}
 use Rattle.frame.proofs.LawsRules.{no_or, check-no, two-checks}
 use Rattle.report.proofs.LawsAccepted.{steps}
-use Rattle.report.proofs.LawsConverting.{from_long, from-short}
 use Rattle.report.proofs.LawsReport.{length_long}
 use Rattle.report.proofs.LawsTrip.{six, twelve}
 

@@ -1,5 +1,5 @@
 -- Round trips of stored reports: reading what was written, writing again what was read, converting there and back. Assumes nothing.
-use Prim.Native.Nat.{ℕ, suc, ◌+◌, ◌*◌, ◌/◌, ◌%◌, ◌^◌, ◌≤◌, ◌<◌}
+use Prim.Native.Nat.{ℕ, suc, ◌+◌, ◌/◌, ◌%◌, ◌^◌, ◌≤◌, ◌<◌}
 use mathlib.Core.Path.{◌≡◌, refl, sym, ap, ◌∙◌}
 use mathlib.Core.Bool.{true, false, ◌||◌}
 use mathlib.Core.List.{List, [], ◌∷◌, ◌++◌}
@@ -17,24 +17,14 @@ use Rattle.de9im.specs.Cells.{cells_of, matrix_of}
 use Rattle.de9im.specs.EighteenBits.{packed_of, unpacked_of}
 use Rattle.de9im.specs.Text as T
 use Rattle.de9im.proofs.LawsBool.{told}
-use Rattle.de9im.proofs.LawsEighteen.{packed-cells, packed-small, packed-back, packed-read, unpacked-read}
+use Rattle.de9im.proofs.LawsEighteen.{packed-cells, packed-small, packed-back, unpacked-read}
 use Rattle.de9im.proofs.LawsRoundTrip.{read-written, written_read}
 use Rattle.frame.specs.Read.{Read, good, bad, ◌>>=◌, read_as}
 use Rattle.frame.specs.Words.{byte_at, AreBytes, promised, three_bytes, three_bytes_at}
 use Rattle.frame.proofs.LawsRead.{bad-good, passed}
-use Rattle.report.specs.Report.{
-  long_bytes,
-  short_bytes,
-  letters_of,
-  bits_of,
-  length_for,
-  cells_said,
-  report_said,
-  report_as,
-  read_report,
-}
+use Rattle.report.specs.Report.{long_bytes, short_bytes, letters_of, bits_of, cells_said, report_said, report_as, read_report}
 use Rattle.report.specs.Converting.{other_form, other_bytes}
-use Rattle.report.proofs.LawsAccepted.{Passed, steps, accepted}
+use Rattle.report.proofs.LawsAccepted.{steps, accepted}
 use Rattle.report.proofs.LawsConverting.{from_long, from-short}
 use Rattle.report.proofs.LawsReport.{by-cells, top_clear}
 

@@ -12,7 +12,6 @@ use lib.Seq.{take_all, length-take-le, get_or-take, drop_at}
 use Rattle.de9im.specs.declared.answer.Answer.{Answer}
 use Rattle.de9im.specs.declared.answer.Answer.TheVariants as A
 use Rattle.de9im.specs.declared.answer.BytesAnswer.{BytesAnswer}
-use Rattle.de9im.specs.declared.answer.Checked.TheVariants.{Refused}
 use Rattle.de9im.specs.Cells.{cells_of, matrix_of}
 use Rattle.de9im.specs.Matrix.{Matrix, transposed_of, start_matrix}
 use Rattle.walks.proofs.LawsPouring.{number_in}

@@ -9,7 +9,7 @@ use lib.Seq.{length-take-le}
 use Rattle.de9im.specs.declared.answer.Answer.{Answer}
 use Rattle.de9im.specs.declared.answer.Answer.TheVariants as A
 use Rattle.de9im.specs.declared.answer.BytesAnswer.{BytesAnswer}
-use Rattle.de9im.specs.declared.answer.Checked.TheVariants.{Fine, Refused}
+use Rattle.de9im.specs.declared.answer.Checked.TheVariants.{Fine}
 use Rattle.de9im.proofs.LawsApart.{fine_refused}
 use Rattle.ends.specs.Every.{All, none, more}
 use Rattle.order.proofs.LawsPerm.{all_perm, perm_length}

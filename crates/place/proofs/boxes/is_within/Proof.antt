@@ -1,6 +1,0 @@
-use borrow.Author.Rules.{rules}
-use Rattle.place.proofs.boxes.is_within.Statement.{statement}
-use Rattle.place.proofs.boxes.is_within.Tie as tie
-
-pub is-within-spec : {M : Type 1} → statement M
-is-within-spec = tie.close (tie.spec (λ c κs. search rules) (λ c κs. search rules) (λ c. cc))
