@@ -25,7 +25,8 @@ use Rattle.bundles.proofs.LawsJoined.{Fits, star-bundles}
 
 -- ---- one end more
 
-words_more : (i : ℕ) (es : List EdgeEnd) (e : EdgeEnd) → words_from i (es ++ (e ∷ [])) ≡ words_from i es ++ (word_for (i + length es) e ∷ [])
+words_more : (i : ℕ) (es : List EdgeEnd) (e : EdgeEnd)
+    → words_from i (es ++ (e ∷ [])) ≡ words_from i es ++ (word_for (i + length es) e ∷ [])
 unfolding words_from
 words_more i [] e = rw (add-zero i)
 words_more i (x ∷ es) e =

@@ -57,7 +57,8 @@ module _ (p : List ℕ) where
       ∙ ap not (accepted-bit (letter_of (get_or p k 0)) d)
 
   mask_is : (d : Dimensions) → plane (λ k. left_out (get_or (letters_of p) k 0) (dim_no d)) 9 ≡ mask_of p (dim_no d)
-  mask_is d = plane-same (λ k. left_out (get_or (letters_of p) k 0) (dim_no d)) (λ k. refused_at p k (dim_no d)) 9 (λ k l. left_out_lem k d l)
+  mask_is d =
+      plane-same (λ k. left_out (get_or (letters_of p) k 0) (dim_no d)) (λ k. refused_at p k (dim_no d)) 9 (λ k l. left_out_lem k d l)
 
   -- the masks as the code has them
   module _ (m : Planes) (ls : List ℕ) (is : m ≡ planes_of (λ k. left_out (get_or ls k 0))) (are : ls ≡ letters_of p) where
@@ -68,7 +69,8 @@ module _ (p : List ℕ) where
     unfolding masked_of
     made-fine e = rw (e, masks-are) refl
 
-  pub made-refused : (x : Checked) (r : Refusal) → x ≡ check_of p → x ≡ C.Refused r → record { answer = x; masks = four_zeros } ≡ masked_of p
+  pub made-refused : (x : Checked) (r : Refusal) → x ≡ check_of p → x ≡ C.Refused r
+      → record { answer = x; masks = four_zeros } ≡ masked_of p
   unfolding masked_of
   made-refused x r e h = rw (← e, h) refl
 

@@ -142,7 +142,8 @@ bits_place : (n : ℕ) (p : Spot) → place_by (bits_of n) ≡ cond (eqb (cond (
 unfolding bits_of
 bits_place n p = place-check (leb (2 ^ 18) n) TopBits (good (unpacked_of n)) 0 p refl refl (λ h. refl)
 
-cells-place : (s : List ℕ) → 2 + length_for (byte_at s 2) ≤ length s → place_by (cells_said s) ≡ cond (eqb (cells_no s) 11) (bad_place s) Nowhere
+cells-place : (s : List ℕ) → 2 + length_for (byte_at s 2) ≤ length s
+    → place_by (cells_said s) ≡ cond (eqb (cells_no s) 11) (bad_place s) Nowhere
 unfolding cells_said
 cells-place s h = told (eqb (byte_at s 2) 1)
     (λ v. rw v (letters-place s (omega (arith, h, length_long (byte_at s 2) (eqb-true _ _ v)))))

@@ -129,7 +129,8 @@ module _ (k : ℕ) (ns s : List ℕ) where
   first-exchanged : record_of (flipped ns) (other_record (take size s) ++ others) ≡ flipped_bytes (record_of ns s)
   first-exchanged = by (ltb (length s) size) refl
     where
-      by : (t : Bool) → ltb (length s) size ≡ t → record_of (flipped ns) (other_record (take size s) ++ others) ≡ flipped_bytes (record_of ns s)
+      by : (t : Bool) → ltb (length s) size ≡ t
+        → record_of (flipped ns) (other_record (take size s) ++ others) ≡ flipped_bytes (record_of ns s)
       by true e = first_part (ltb-true _ _ e)
       by false e = first-whole (ltb-false _ _ e)
 

@@ -62,7 +62,8 @@ other A = B
 other B = A
 
 -- joining
-count-other : (t u : EdgeEnd → Bool) → ((e : EdgeEnd) → t (other_end e) ≡ u e) → (es : List EdgeEnd) → count t (map other_end es) ≡ count u es
+count-other : (t u : EdgeEnd → Bool) → ((e : EdgeEnd) → t (other_end e) ≡ u e) → (es : List EdgeEnd)
+    → count t (map other_end es) ≡ count u es
 unfolding count
 count-other t u f [] = refl
 count-other t u f (e ∷ es) = rw (f e, count-other t u f es) refl
@@ -70,9 +71,11 @@ count-other t u f (e ∷ es) = rw (f e, count-other t u f es) refl
 on_other : (g : Geometry) (es : List EdgeEnd) → on_joined (other g) (map other_end es) ≡ on_joined g es
 unfolding on_joined
 on_other A es =
-    rw (count-other (on_is B OnBoundary) (on_is A OnBoundary) (λ e. refl) es, count-other (on_is B Inside) (on_is A Inside) (λ e. refl) es) refl
+    rw (count-other (on_is B OnBoundary) (on_is A OnBoundary) (λ e. refl) es, count-other (on_is B Inside)
+      (on_is A Inside) (λ e. refl) es) refl
 on_other B es =
-    rw (count-other (on_is A OnBoundary) (on_is B OnBoundary) (λ e. refl) es, count-other (on_is A Inside) (on_is B Inside) (λ e. refl) es) refl
+    rw (count-other (on_is A OnBoundary) (on_is B OnBoundary) (λ e. refl) es, count-other (on_is A Inside)
+      (on_is B Inside) (λ e. refl) es) refl
 
 side-other : (g : Geometry) (s : Side) (es : List EdgeEnd) → side_joined (other g) s (map other_end es) ≡ side_joined g s es
 unfolding side_joined
@@ -128,7 +131,8 @@ start-other g [] = refl
 start-other A (l ∷ ls) = rw (start-other A ls) refl
 start-other B (l ∷ ls) = rw (start-other B ls) refl
 
-from-other : (g : Geometry) (p : Position) (ls : List Label) → walk_from (other g) p (map other_label ls) ≡ map other_label (walk_from g p ls)
+from-other : (g : Geometry) (p : Position) (ls : List Label)
+    → walk_from (other g) p (map other_label ls) ≡ map other_label (walk_from g p ls)
 unfolding walk_from
 from-other g p [] = refl
 from-other A p (l ∷ ls) = rw (from-other A (walk_next l.area p l.a) ls) refl

@@ -79,7 +79,8 @@ own-cut (suc k) ns [] h e = none
 own-cut (suc k) ns (b ∷ s) h e = by (record_of ns (b ∷ s)).answer refl (λ ms l f. own-cut k ms (drop (2 + promised (b ∷ s)) (b ∷ s)) l f)
   where
     by : (x : Answer) → (record_of ns (b ∷ s)).answer ≡ x
-        → ((ms : List ℕ) → length (drop (2 + promised (b ∷ s)) (b ∷ s)) ≤ k → (floor_of ms (drop (2 + promised (b ∷ s)) (b ∷ s))).stop ≡ Fine
+        → ((ms : List ℕ) → length (drop (2 + promised (b ∷ s)) (b ∷ s)) ≤ k
+        → (floor_of ms (drop (2 + promised (b ∷ s)) (b ∷ s))).stop ≡ Fine
         → All Own (cut k (drop (2 + promised (b ∷ s)) (b ∷ s))))
         → All Own (take (2 + promised (b ∷ s)) (b ∷ s) ∷ cut k (drop (2 + promised (b ∷ s)) (b ∷ s)))
     by (A.Refused r) q rest =
