@@ -130,7 +130,7 @@ module _ (k : ℕ) (ns s : List ℕ) where
   first-exchanged = by (ltb (length s) size) refl
     where
       by : (t : Bool) → ltb (length s) size ≡ t
-        → record_of (flipped ns) (other_record (take size s) ++ others) ≡ flipped_bytes (record_of ns s)
+          → record_of (flipped ns) (other_record (take size s) ++ others) ≡ flipped_bytes (record_of ns s)
       by true e = first_part (ltb-true _ _ e)
       by false e = first-whole (ltb-false _ _ e)
 

@@ -71,11 +71,17 @@ count-other t u f (e ∷ es) = rw (f e, count-other t u f es) refl
 on_other : (g : Geometry) (es : List EdgeEnd) → on_joined (other g) (map other_end es) ≡ on_joined g es
 unfolding on_joined
 on_other A es =
-    rw (count-other (on_is B OnBoundary) (on_is A OnBoundary) (λ e. refl) es, count-other (on_is B Inside)
-      (on_is A Inside) (λ e. refl) es) refl
+    rw (
+      count-other (on_is B OnBoundary) (on_is A OnBoundary) (λ e. refl) es,
+      count-other (on_is B Inside)
+          (on_is A Inside) (λ e. refl) es,
+    ) refl
 on_other B es =
-    rw (count-other (on_is A OnBoundary) (on_is B OnBoundary) (λ e. refl) es, count-other (on_is A Inside)
-      (on_is B Inside) (λ e. refl) es) refl
+    rw (
+      count-other (on_is A OnBoundary) (on_is B OnBoundary) (λ e. refl) es,
+      count-other (on_is A Inside)
+          (on_is B Inside) (λ e. refl) es,
+    ) refl
 
 side-other : (g : Geometry) (s : Side) (es : List EdgeEnd) → side_joined (other g) s (map other_end es) ≡ side_joined g s es
 unfolding side_joined
