@@ -71,6 +71,14 @@ for words in 'uncut both 21 at 1 0' 'crossed B 20 at 0 2' 'word B 19 at 4' 'poin
         wrong "./outlines of ${words%% *}"
     fi
 done
+# names in UTF-8, in Latin-1 and of a file that isn't there
+for name in 'h\303\266f' 'h\366f'; do
+    # shellcheck disable=SC2059
+    name=$(printf "$name")
+    cp samples/alcove_a.wkt "$work/$name.wkt"
+    ./outlines "$work/$name.wkt" samples/alcove_b.wkt | cmp - samples/alcove.txt || wrong "./outlines $name.wkt"
+    [ "$(./outlines "$work/$name.none" samples/alcove_b.wkt 2>"$work/said")" = 'refused A 23 at 0' ] || wrong "./outlines $name.none"
+done
 for words in --nothing '' $pair/square.wkt "$pair/square.wkt $pair/square.wkt $pair/square.wkt"; do
     status=0
     # shellcheck disable=SC2086
@@ -89,6 +97,10 @@ if [ "$(cat "$work/out")" = 'refused new 23 at 0' ] && [ "$(wc -l <"$work/said")
 else
     wrong "./changed of a missing file"
 fi
+name=$(printf 'h\366f')
+cp $pair/two.reports "$work/$name"
+./changed "$work/$name" $pair/three.reports | cmp - crates/changed/stdout || wrong "./changed $name $pair/three.reports"
+[ -z "$(./changed "$work/$name" "$work/$name")" ] || wrong "./changed $name $name"
 for words in --nothing '' $pair/two.reports "$pair/two.reports $pair/two.reports $pair/two.reports"; do
     status=0
     # shellcheck disable=SC2086
