@@ -1,8 +1,8 @@
 //! Patterns as masks, request R-4: every matrix with many patterns, beside the crate, the cell walk of our library and
 //! document 01's own rules; refused patterns; masks that no pattern makes; batches; all eleven verdicts in one call.
 //!
-//! A batch of all matrices is one call, so this asks the library in this process: on x86-64 the archive, elsewhere the
-//! archive's module compiled for this processor (README.md, "How speed is measured").
+//! A batch of all matrices is one call, so this asks the library in this process: the archive must be for this
+//! processor (README.md).
 
 #[cfg(not(linked))]
 pub fn main() -> i32 {

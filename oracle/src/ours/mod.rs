@@ -1,9 +1,8 @@
 //! Our side: one call of the C interface written down as a record, and the ways to have it answered.
 //!
-//! Where the library is built for the processor that the oracle runs on, it is linked and called (`linked`). The
-//! library is x86-64 code; elsewhere it is linked into a small program that an emulator runs, and the records go
-//! through a pipe (`far`). There the same LLVM module may be compiled for that processor and linked too: `bench` calls
-//! that and nothing else does. build.rs looks into the archive and decides.
+//! Where the library is built for the processor that the oracle runs on, it is linked and called (`linked`). Where the
+//! archive is for another one it is linked into a small program that an emulator runs, and the records go through a
+//! pipe (`far`). build.rs looks into the archive and decides.
 
 #[cfg(far)]
 mod far;
