@@ -100,7 +100,7 @@ fi
 name=$(printf 'h\366f')
 cp $pair/two.reports "$work/$name"
 ./changed "$work/$name" $pair/three.reports | cmp - crates/changed/stdout || wrong "./changed $name $pair/three.reports"
-[ -z "$(./changed "$work/$name" "$work/$name")" ] || wrong "./changed $name $name"
+if ! same=$(./changed "$work/$name" "$work/$name") || [ -n "$same" ]; then wrong "./changed $name $name"; fi
 for words in --nothing '' $pair/two.reports "$pair/two.reports $pair/two.reports $pair/two.reports"; do
     status=0
     # shellcheck disable=SC2086
