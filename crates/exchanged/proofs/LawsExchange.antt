@@ -1,9 +1,9 @@
 -- Exchanging two outlines transposes the matrix of those that are let pass, and so the answer to any two. Assumes nothing.
+use Rattle.std.specs.Prelude.{Some}
 use Prim.Native.Nat.{ℕ}
 use mathlib.Core.Path.{◌≡◌, refl, sym, ap, ◌∙◌}
 use mathlib.Core.List.{List, [], ◌∷◌}
 use lib.IntN.{ℤ}
-use Rattle.de9im.specs.Position.{known}
 use Rattle.de9im.proofs.LawsBool.{told}
 use Rattle.ends.specs.declared.label.Label.{Label}
 use Rattle.outline.specs.declared.corners.Corner.{Corner}
@@ -42,7 +42,7 @@ module _ (a b : List Corner) (ok : Accepted a) (oj : Accepted b) where
   into-other : (p : Corner) (i j : ℕ) → said_into (star_at b a p) i j ≡ said_into (star_at a b p) j i
   into-other p i j =
       ap
-      (λ (ls : List Label). star_into (node_for b a p) (completed_of (known (position_of b p)) (known (position_of a p)) ls) i j)
+      (λ (ls : List Label). star_into (node_for b a p) (completed_of (Some (position_of b p)) (Some (position_of a p)) ls) i j)
       (joined-exchanged a b ok oj p)
       ∙ said_into_other (star_at a b p) i j
 

@@ -1,4 +1,6 @@
 -- Laws of bundle and star calls on bytes. Assumes nothing.
+use Rattle.std.specs.Prelude.{Option, None, Result, Ok, Err}
+use Rattle.de9im.specs.declared.coordinate_position.CoordPos.{CoordPos}
 use Prim.Native.Nat.{ℕ, ◌*◌, ◌/◌, ◌%◌, ◌≤◌, ◌<◌}
 use mathlib.Core.Path.{◌≡◌, refl, sym, ap, ◌∙◌}
 use mathlib.Core.Bool.{Bool, true, false, cond, not}
@@ -8,21 +10,16 @@ use borrow.Author.Tests.{eq-eqb, eqb-true, le-ltb, ltb-false, le-leb, lt-leb}
 use lib.Dec.{eqb, leb, ltb}
 use lib.ListN.{length, take, drop}
 use lib.Seq.{take-length, take-append_seam}
-use Rattle.de9im.specs.declared.answer.Checked.{Checked}
-use Rattle.de9im.specs.declared.answer.Checked.TheVariants.{Fine, Refused}
-use Rattle.de9im.specs.declared.coordinate_position.Position.{Position}
 use Rattle.de9im.specs.declared.refusal.Refusal.{Refusal}
 use Rattle.de9im.specs.declared.refusal.Refusal.TheVariants as R
-use Rattle.de9im.specs.declared.refusal.Spot.TheVariants.{Nowhere}
-use Rattle.de9im.specs.Answers.{checked_place}
-use Rattle.de9im.proofs.LawsApart.{fine_refused}
+use Rattle.de9im.specs.Answers.{answer_place}
+use Rattle.de9im.proofs.LawsApart.{ok_err}
 use Rattle.ends.specs.declared.label.Label.{Label}
 use Rattle.ends.specs.declared.edge_end.EdgeEnd.{EdgeEnd}
 use Rattle.ends.specs.Bundle.{join_of}
 use Rattle.ends.specs.Count.{most_ends}
 use Rattle.ends.specs.Ends.{or_fault}
 use Rattle.ends.specs.Label.{padded}
-use Rattle.star.specs.declared.edge_end_bundle.Bundled.TheVariants as D
 use Rattle.star.specs.declared.edge_end_bundle_star.Labeled.{Labeled}
 use Rattle.star.specs.Calls.{bundled_as, bundled_of, refused_star, star_call, star_of}
 use Rattle.star.specs.Answers.{bundled_place, labeled_place}
@@ -40,28 +37,28 @@ use Rattle.labels.proofs.LawsLabels.{labels_length}
 
 -- bytes whose count is refused are refused so; others are read one by one
 module _ (s : List ℕ) where
-  pub count-bad : (r : Refusal) → count_of (length s) ≡ Refused r → ends_call s ≡ bad r
+  pub count-bad : (r : Refusal) → count_of (length s) ≡ Err r → ends_call s ≡ bad r
   unfolding ends_call
   count-bad r e = by (eqb (length s % 15) 0) (ltb most_ends (length s / 15)) e
     where
-      by : (t u : Bool) → cond t (cond u (Refused R.Ends) Fine) (Refused R.Length) ≡ Refused r
+      by : (t u : Bool) → cond t (cond u (Err R.Ends) (Ok tt)) (Err R.Length) ≡ Err r
           → cond (not t) (bad R.Length) (cond u (bad R.Ends) (read_ends (length s / 15) s 0)) ≡ bad r
       by true true f = ap bad (cc)
-      by true false f = fine_refused f
+      by true false f = ok_err f
       by false u f = ap bad (cc)
 
   pub record Counted : Type 0 where
     pub whole : length s % 15 ≡ 0
     pub few : length s / 15 ≤ most_ends
 
-  pub count-fine : count_of (length s) ≡ Fine → Counted
+  pub count-fine : count_of (length s) ≡ (Ok tt) → Counted
   count-fine e = by (eqb (length s % 15) 0) (ltb most_ends (length s / 15)) refl refl e
     where
       by : (t u : Bool) → eqb (length s % 15) 0 ≡ t → ltb most_ends (length s / 15) ≡ u
-          → cond t (cond u (Refused R.Ends) Fine) (Refused R.Length) ≡ Fine → Counted
-      by true true f g h = fine_refused (sym h)
+          → cond t (cond u (Err R.Ends) (Ok tt)) (Err R.Length) ≡ (Ok tt) → Counted
+      by true true f g h = ok_err (sym h)
       by true false f g h = record { whole = eqb-true _ _ f; few = ltb-false _ _ g }
-      by false u f g h = fine_refused (sym h)
+      by false u f g h = ok_err (sym h)
 
   pub call-reads : (n : ℕ) → 15 * n ≡ length s → n ≤ most_ends → ends_call s ≡ read_ends n s 0
   unfolding ends_call
@@ -71,11 +68,11 @@ module _ (s : List ℕ) where
 
 -- ends that were read are checked already
 module _ (s : List ℕ) (es : List EdgeEnd) (e : ends_call s ≡ good es) where
-  pub bundle-read : bundle_call (ends_call s) ≡ D.Joined (join_of es)
+  pub bundle-read : bundle_call (ends_call s) ≡ Ok (join_of es)
   unfolding bundled_of
   bundle-read = rw (e, call_fine s es e, take-length es) refl
 
-  pub star-read : (p q : Position) → star_on (ends_call s) p q ≡ star_of es p q
+  pub star-read : (p q : Option CoordPos) → star_on (ends_call s) p q ≡ star_of es p q
   unfolding star_call
   star-read p q = rw (e, call_fine s es e, take-length es) refl
 
@@ -84,10 +81,10 @@ pub joined_call : (s : List ℕ) (n : ℕ) (j : JoinedEnds) → 15 * n ≡ lengt
     → bundled_as j.answer (shown_word j.word) ≡ bundle_call (ends_call s)
 joined_call s n j e h k = by j.answer k
   where
-    by : (c : Checked) → ReadBy c (λ es. shown_word j.word ≡ join_of es) n s 0
+    by : (c : Result Unit Refusal) → ReadBy c (λ es. shown_word j.word ≡ join_of es) n s 0
         → bundled_as c (shown_word j.word) ≡ bundle_call (ends_call s)
-    by Fine a = rw a.kept (sym (bundle-read s a.ends (call-reads s n e h ∙ a.read)))
-    by (Refused r) f = sym (ap bundle_call (call-reads s n e h ∙ f))
+    by (Ok tt) a = rw a.kept (sym (bundle-read s a.ends (call-reads s n e h ∙ a.read)))
+    by (Err r) f = sym (ap bundle_call (call-reads s n e h ∙ f))
 
 -- labels in an array, told again
 pub labels_shown : (ls : List Label) (n : ℕ) → length ls ≡ n → take n (padded ls) ≡ ls
@@ -95,67 +92,67 @@ labels_shown ls n e = rw (← e) (take-append_seam ls _)
 
 -- a star call that is refused leaves the buffer
 module _ (s : Labeled) (buf : List ℕ) where
-  pub refused-put : (r : Refusal) → s ≡ refused_star r → StarPut s buf (record { answer = Refused r; count = 0 }) buf
+  pub refused-put : (r : Refusal) → s ≡ refused_star r → StarPut s buf (record { answer = Err r; count = 0 }) buf
   refused-put r e = rw e (record { put = refl; bytes = refl; few = omega arith })
 
   -- labels that fit go into its front, and others are 12
-  module _ (ls : List Label) (e : s ≡ record { answer = Fine; labels = padded ls; count = length ls }) where
+  module _ (ls : List Label) (e : s ≡ record { answer = (Ok tt); labels = padded ls; count = length ls }) where
     shows : shown_labels s ≡ labels_bytes ls
     shows = rw (e, labels_shown ls (length ls) refl) refl
 
-    fine : s.answer ≡ Fine
+    fine : s.answer ≡ Ok tt
     fine = rw e refl
 
     many : s.count ≡ length ls
     many = rw e refl
 
     pub full_put : length ls ≤ most_ends → 7 * length ls ≤ length buf
-        → StarPut s buf (record { answer = Fine; count = length ls }) (labels_bytes ls ++ drop (7 * length ls) buf)
+        → StarPut s buf (record { answer = (Ok tt); count = length ls }) (labels_bytes ls ++ drop (7 * length ls) buf)
     full_put k h =
         let l = labels_length ls in
-        let room : room_for (labels_bytes ls) buf ≡ Fine = rw (l, le-leb _ _ h) refl in
-        let told : star_checked s buf ≡ Fine = rw (fine, shows, room) refl in
+        let room : room_for (labels_bytes ls) buf ≡ (Ok tt) = rw (l, le-leb _ _ h) refl in
+        let told : star_checked s buf ≡ (Ok tt) = rw (fine, shows, room) refl in
         record { put = rw (told, many) refl; bytes = rw (told, shows, l) refl; few = k }
 
-    pub short-put : length buf < 7 * length ls → StarPut s buf (record { answer = Refused R.NoRoom; count = 0 }) buf
+    pub short-put : length buf < 7 * length ls → StarPut s buf (record { answer = Err R.NoRoom; count = 0 }) buf
     short-put h =
         let l = labels_length ls in
-        let room : room_for (labels_bytes ls) buf ≡ Refused R.NoRoom = rw (l, lt-leb _ _ h) refl in
-        let told : star_checked s buf ≡ Refused R.NoRoom = rw (fine, shows, room) refl in
+        let room : room_for (labels_bytes ls) buf ≡ Err R.NoRoom = rw (l, lt-leb _ _ h) refl in
+        let told : star_checked s buf ≡ Err R.NoRoom = rw (fine, shows, room) refl in
         record { put = rw told refl; bytes = rw told refl; few = omega arith }
 
 -- no refusal of these calls has a place
-bundle-nowhere-by : (x : Ends) → read_place x ≡ Nowhere → bundled_place (bundle_call x) ≡ Nowhere
+bundle-nowhere-by : (x : Ends) → read_place x ≡ None → bundled_place (bundle_call x) ≡ None
 bundle-nowhere-by (good es) e = bundle-place es (length es)
 bundle-nowhere-by (bad r) e = e
 
-pub bundle-nowhere : (s : List ℕ) → bundled_place (bundle_call (ends_call s)) ≡ Nowhere
+pub bundle-nowhere : (s : List ℕ) → bundled_place (bundle_call (ends_call s)) ≡ None
 bundle-nowhere s = bundle-nowhere-by (ends_call s) (call-nowhere s)
 
-star_nowhere_by : (x : Ends) (p q : Position) → read_place x ≡ Nowhere → labeled_place (star_on x p q) ≡ Nowhere
+star_nowhere_by : (x : Ends) (p q : Option CoordPos) → read_place x ≡ None → labeled_place (star_on x p q) ≡ None
 star_nowhere_by (good es) p q e = star-place es (length es) p q
 star_nowhere_by (bad r) p q e = e
 
-room-nowhere : (c : Checked) (t : Bool) → checked_place c ≡ Nowhere → checked_place (or_fault c (cond t Fine (Refused R.NoRoom))) ≡ Nowhere
-room-nowhere (Refused r) t e = e
-room-nowhere Fine true e = refl
-room-nowhere Fine false e = refl
+room-nowhere : (c : Result Unit Refusal) (t : Bool) → answer_place c ≡ None → answer_place (or_fault c (cond t (Ok tt) (Err R.NoRoom))) ≡ None
+room-nowhere (Err r) t e = e
+room-nowhere (Ok tt) true e = refl
+room-nowhere (Ok tt) false e = refl
 
-put-place : (c : Checked) (n : ℕ) → checked_place (put_as c n).answer ≡ checked_place c
-put-place Fine n = refl
-put-place (Refused r) n = refl
+put-place : (c : Result Unit Refusal) (n : ℕ) → answer_place (put_as c n).answer ≡ answer_place c
+put-place (Ok tt) n = refl
+put-place (Err r) n = refl
 
-pub put-nowhere : (s : List ℕ) (p q : Position) (buf : List ℕ) (r : LabelsPut) (after : List ℕ)
-    → StarPut (star_on (ends_call s) p q) buf r after → checked_place r.answer ≡ Nowhere
+pub put-nowhere : (s : List ℕ) (p q : Option CoordPos) (buf : List ℕ) (r : LabelsPut) (after : List ℕ)
+    → StarPut (star_on (ends_call s) p q) buf r after → answer_place r.answer ≡ None
 put-nowhere s p q buf r after put =
     let l = star_on (ends_call s) p q in
     rw put.put (put-place (star_checked l buf) l.count ∙
     room-nowhere l.answer (leb (length (shown_labels l)) (length buf)) (star_nowhere_by (ends_call s) p q (call-nowhere s)))
 
-count_by : (t u : Bool) → checked_place (cond t (cond u (Refused R.Ends) Fine) (Refused R.Length)) ≡ Nowhere
+count_by : (t u : Bool) → answer_place (cond t (cond u (Err R.Ends) (Ok tt)) (Err R.Length)) ≡ None
 count_by true true = refl
 count_by true false = refl
 count_by false u = refl
 
-pub count-nowhere : (n : ℕ) → checked_place (count_of n) ≡ Nowhere
+pub count-nowhere : (n : ℕ) → answer_place (count_of n) ≡ None
 count-nowhere n = count_by (eqb (n % 15) 0) (ltb most_ends (n / 15))

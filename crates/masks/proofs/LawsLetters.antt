@@ -1,4 +1,5 @@
 -- From letters to masks: one more letter is one more cell of each, nine fit, and each bit is its letter's. Assumes nothing.
+use Rattle.std.specs.Prelude.{Result, Ok, Err}
 use Prim.Native.Nat.{ℕ, ◌+◌, ◌%◌, ◌^◌, ◌≤◌, ◌<◌}
 use mathlib.Core.Path.{◌≡◌, refl, ap, ◌∙◌}
 use mathlib.Core.Bool.{Bool, true, false, not}
@@ -8,8 +9,6 @@ use native.Mathlib.Numerals.{add-one}
 use native.Mathlib.Omega.{arith}
 use lib.Dec.{eqb}
 use lib.ListN.{get_or}
-use Rattle.de9im.specs.declared.answer.Checked.{Checked}
-use Rattle.de9im.specs.declared.answer.Checked.TheVariants as C
 use Rattle.de9im.specs.declared.dimensions.Dimensions.{Dimensions}
 use Rattle.de9im.specs.declared.dimensions.Dimensions.TheVariants.{Empty, ZeroDimensional, OneDimensional, TwoDimensional}
 use Rattle.de9im.specs.declared.refusal.Refusal.{Refusal}
@@ -65,11 +64,11 @@ module _ (p : List ℕ) where
     masks-are : m ≡ planes_of (refused_at p)
     masks-are = is ∙ rw (are, mask_is Empty, mask_is ZeroDimensional, mask_is OneDimensional, mask_is TwoDimensional) refl
 
-    pub made-fine : check_of p ≡ C.Fine → record { answer = C.Fine; masks = m.f ∷ m.d0 ∷ m.d1 ∷ m.d2 ∷ [] } ≡ masked_of p
+    pub made-fine : check_of p ≡ (Ok tt) → record { answer = (Ok tt); masks = m.f ∷ m.d0 ∷ m.d1 ∷ m.d2 ∷ [] } ≡ masked_of p
     unfolding masked_of
     made-fine e = rw (e, masks-are) refl
 
-  pub made-refused : (x : Checked) (r : Refusal) → x ≡ check_of p → x ≡ C.Refused r
+  pub made-refused : (x : Result Unit Refusal) (r : Refusal) → x ≡ check_of p → x ≡ Err r
       → record { answer = x; masks = four_zeros } ≡ masked_of p
   unfolding masked_of
   made-refused x r e h = rw (← e, h) refl

@@ -1,5 +1,7 @@
 -- Words of regions: nothing is cut, two answers with one word are one, and two boxes never have the word of "none of these". Assumes
 -- nothing.
+use Rattle.std.specs.Prelude.{Option, Some, None, Result, Ok, Err}
+use Rattle.de9im.specs.declared.refusal.Refusal.{Refusal}
 use Prim.Native.Nat.{ℕ, ◌≤◌, ◌<◌}
 use mathlib.Core.Path.{◌≡◌, refl, sym, ap}
 use mathlib.Core.Bool.{Bool, true, false, cond}
@@ -12,10 +14,6 @@ use Rattle.de9im.specs.Refused.{spot_no}
 use Rattle.frame.specs.Lent.{wrote_of, write_no}
 use Rattle.frame.proofs.LawsLentNumbers.{write-used, write-place}
 use Rattle.place.specs.declared.places.Rect.{Rect}
-use Rattle.regions.specs.declared.boxes.BoxesRegion.{BoxesRegion}
-use Rattle.regions.specs.declared.boxes.BoxesRegion.TheVariants as B
-use Rattle.regions.specs.declared.region.Named.{Named}
-use Rattle.regions.specs.declared.region.Named.TheVariants as N
 use Rattle.regions.specs.declared.region.Region.{Region}
 use Rattle.regions.specs.declared.region.Region.TheVariants.{NoneOfThese}
 use Rattle.regions.specs.Boxes.{boxes_region, boxes_place}
@@ -41,22 +39,22 @@ name_fits r buf at =
     )
 
 -- two answers with one word are one
-pub boxes_told : (a b : BoxesRegion) → spot_no (boxes_place a) < 256 → spot_no (boxes_place b) < 256 → boxes_word a ≡ boxes_word b → a ≡ b
-boxes_told (B.Is r) (B.Is s) h i e = ap B.Is (number-told r s e)
-boxes_told (B.Is r) (B.Refused q) h i e = no_answer (number_of r) q (omega (arith, number_small r)) e
-boxes_told (B.Refused q) (B.Is s) h i e = no_answer (number_of s) q (omega (arith, number_small s)) (sym e)
-boxes_told (B.Refused q) (B.Refused p) h i e = ap B.Refused (refusal-told q p h i e)
+pub boxes_told : (a b : Result Region Refusal) → spot_no (boxes_place a) < 256 → spot_no (boxes_place b) < 256 → boxes_word a ≡ boxes_word b → a ≡ b
+boxes_told (Ok r) (Ok s) h i e = ap Ok (number-told r s e)
+boxes_told (Ok r) (Err q) h i e = no_answer (number_of r) q (omega (arith, number_small r)) e
+boxes_told (Err q) (Ok s) h i e = no_answer (number_of s) q (omega (arith, number_small s)) (sym e)
+boxes_told (Err q) (Err p) h i e = ap Err (refusal-told q p h i e)
 
-pub region_named_told : (a b : Named) → named_word a ≡ named_word b → a ≡ b
-region_named_told (N.Is r) (N.Is s) e = ap N.Is (number-told r s e)
-region_named_told (N.Is r) N.Nothing e = absurd (omega (arith, number_small r))
-region_named_told N.Nothing (N.Is s) e = absurd (omega (arith, number_small s))
-region_named_told N.Nothing N.Nothing e = refl
+pub region_named_told : (a b : Option Region) → named_word a ≡ named_word b → a ≡ b
+region_named_told (Some r) (Some s) e = ap Some (number-told r s e)
+region_named_told (Some r) None e = absurd (omega (arith, number_small r))
+region_named_told None (Some s) e = absurd (omega (arith, number_small s))
+region_named_told None None e = refl
 
 -- two boxes never have the word of "none of these"
 pub never-eight : (a b : Rect) → boxes_word (boxes_region a b) ≡ 8 → ⊥
 never-eight a b e = at (boxes_region a b) refl e
   where
-    at : (t : BoxesRegion) → boxes_region a b ≡ t → boxes_word t ≡ 8 → ⊥
-    at (B.Is r) f w = let one = number-told r NoneOfThese w in never-none a b (cc)
-    at (B.Refused q) f w = absurd (omega arith)
+    at : (t : Result Region Refusal) → boxes_region a b ≡ t → boxes_word t ≡ 8 → ⊥
+    at (Ok r) f w = let one = number-told r NoneOfThese w in never-none a b (cc)
+    at (Err q) f w = absurd (omega arith)

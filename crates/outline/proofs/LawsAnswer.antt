@@ -1,4 +1,5 @@
 -- Each refusal in its turn, and the position after them; an outline is a list of corners. Assumes nothing.
+use Rattle.std.specs.Prelude.{None, Ok, Err}
 use Prim.Native.Nat.{ℕ, ◌≤◌, ◌<◌}
 use mathlib.Core.Path.{◌≡◌, refl, ◌∙◌}
 use mathlib.Core.Bool.{Bool, true, false, cond, ◌||◌, or-true}
@@ -7,11 +8,9 @@ use borrow.Author.Tests.{ltb-false, lt-ltb, le-ltb}
 use lib.Dec.{ltb}
 use lib.ListN.{length, take}
 use Rattle.de9im.specs.declared.refusal.Refusal.TheVariants.{CornerCount, OutOfRange, EqualCorners}
-use Rattle.de9im.specs.declared.refusal.Spot.TheVariants.{Nowhere}
 use Rattle.de9im.proofs.LawsBool.{neither}
 use Rattle.outline.specs.declared.corners.Corner.{Corner}
 use Rattle.outline.specs.declared.corners.Outline.{Outline}
-use Rattle.outline.specs.declared.position.Located.TheVariants.{Is, Refused}
 use Rattle.outline.specs.Corners.{far_corner, some_far}
 use Rattle.outline.specs.Sides.{sides, some_of, equal_ends}
 use Rattle.outline.specs.Position.{position_of}
@@ -28,7 +27,7 @@ pub too_many : (n : ℕ) → 64 < n → wrong_count n ≡ true
 too_many n h = rw (lt-ltb 64 n h) (or-true (ltb n 3))
 
 -- a list whose count is wrong, and one whose count is right
-pub miscounted : (cs : List Corner) (p : Corner) → wrong_count (length cs) ≡ true → answer_of cs p ≡ Refused CornerCount
+pub miscounted : (cs : List Corner) (p : Corner) → wrong_count (length cs) ≡ true → answer_of cs p ≡ Err CornerCount
 unfolding answer_of
 miscounted cs p e = rw e
 
@@ -36,7 +35,7 @@ pub counted : (cs : List Corner) (p : Corner) → wrong_count (length cs) ≡ fa
 unfolding answer_of
 counted cs p e = rw e
 
-pub outline_many : (o : Outline) (p : Corner) → 64 < o.count → outline_of o p ≡ Refused CornerCount
+pub outline_many : (o : Outline) (p : Corner) → 64 < o.count → outline_of o p ≡ Err CornerCount
 unfolding outline_of
 outline_many o p h = rw (lt-ltb 64 o.count h)
 
@@ -45,14 +44,14 @@ unfolding outline_of
 outline_listed o p h = rw (le-ltb 64 o.count h)
 
 -- no refusal of an outline has a place
-pub answer-nowhere : (cs : List Corner) (p : Corner) → located_place (answer_of cs p) ≡ Nowhere
+pub answer-nowhere : (cs : List Corner) (p : Corner) → located_place (answer_of cs p) ≡ None
 unfolding answer_of checked_of
 answer-nowhere cs p =
     by (wrong_count (length cs)) (some_far cs || far_corner p) (some_of equal_ends (sides cs))
   where
     by : (t f s : Bool)
-        → located_place (cond t (Refused CornerCount) (cond f (Refused OutOfRange) (cond s (Refused EqualCorners) (Is (position_of cs p)))))
-        ≡ Nowhere
+        → located_place (cond t (Err CornerCount) (cond f (Err OutOfRange) (cond s (Err EqualCorners) (Ok (position_of cs p)))))
+        ≡ None
     by true f s = refl
     by false true s = refl
     by false false true = refl
@@ -60,20 +59,20 @@ answer-nowhere cs p =
 
 -- each refusal in its turn, and the position
 module _ (cs : List Corner) (p : Corner) (e : wrong_count (length cs) ≡ false) where
-  pub is-far : some_far cs ≡ true → answer_of cs p ≡ Refused OutOfRange
+  pub is-far : some_far cs ≡ true → answer_of cs p ≡ Err OutOfRange
   unfolding checked_of
   is-far f = counted cs p e ∙ rw f
 
   module _ (f : some_far cs ≡ false) where
-    pub is-far-point : far_corner p ≡ true → answer_of cs p ≡ Refused OutOfRange
+    pub is-far-point : far_corner p ≡ true → answer_of cs p ≡ Err OutOfRange
     unfolding checked_of
     is-far-point g = counted cs p e ∙ rw (f, g)
 
     module _ (g : far_corner p ≡ false) where
-      pub is_same_lem : some_of equal_ends (sides cs) ≡ true → answer_of cs p ≡ Refused EqualCorners
+      pub is_same_lem : some_of equal_ends (sides cs) ≡ true → answer_of cs p ≡ Err EqualCorners
       unfolding checked_of
       is_same_lem h = counted cs p e ∙ rw (f, g, h)
 
-      pub is_at : some_of equal_ends (sides cs) ≡ false → answer_of cs p ≡ Is (position_of cs p)
+      pub is_at : some_of equal_ends (sides cs) ≡ false → answer_of cs p ≡ Ok (position_of cs p)
       unfolding checked_of
       is_at h = counted cs p e ∙ rw (f, g, h)

@@ -1,5 +1,6 @@
 -- The number, the place and the bytes used that are answered to a stored report are document 01's and request R-3's, read, written and
 -- converted; a bad byte's place is 0 to 8. Assumes nothing.
+use Rattle.std.specs.Prelude.{Option, Some, None, Result, Ok, Err}
 use Prim.Native.Nat.{ℕ, ◌+◌, ◌^◌, ◌≤◌, ◌<◌}
 use mathlib.Core.Path.{◌≡◌, refl, sym, ap, ◌∙◌}
 use mathlib.Core.Bool.{Bool, true, false, cond, not, ◌&&◌, ◌||◌}
@@ -8,19 +9,13 @@ use native.Mathlib.Omega.{arith}
 use borrow.Author.Tests.{ltb-false, eqb-true, not-false, eq-eqb}
 use lib.Dec.{eqb, ltb, leb}
 use lib.ListN.{length, take, drop, length-take, length-drop}
-use Rattle.de9im.specs.declared.answer.Answer.{Answer}
-use Rattle.de9im.specs.declared.answer.Answer.TheVariants as A
-use Rattle.de9im.specs.declared.answer.Checked.{Checked}
-use Rattle.de9im.specs.declared.answer.Checked.TheVariants.{Fine, Refused}
 use Rattle.de9im.specs.declared.refusal.Refusal.{Refusal}
 use Rattle.de9im.specs.declared.refusal.Refusal.TheVariants.{Short, Length, Version, TopBits}
-use Rattle.de9im.specs.declared.refusal.Spot.{Spot}
-use Rattle.de9im.specs.declared.refusal.Spot.TheVariants.{Nowhere, At}
-use Rattle.de9im.specs.Answers.{answer_no, answer_place, used_of, checked_no, checked_place, bad_no}
+use Rattle.de9im.specs.Answers.{answer_no, answer_place, used_of, bad_no}
 use Rattle.de9im.specs.Refused.{number_of, place_of, spot_no}
 use Rattle.de9im.specs.Text.{good_byte, read_of}
 use Rattle.de9im.specs.EighteenBits.{unpacked_of}
-use Rattle.de9im.proofs.LawsApart.{nowhere-at}
+use Rattle.de9im.proofs.LawsApart.{none_some}
 use Rattle.de9im.proofs.LawsBool.{told}
 use Rattle.de9im.proofs.LawsNear.{bad-within}
 use Rattle.de9im.proofs.LawsNumbers.{read_number, read-place}
@@ -47,13 +42,13 @@ module _ (s : List ℕ) where
   letters = take 9 (drop 3 s)
 
   -- the number
-  checked-by : (c : Checked) (ns : List ℕ) → no_or (read_as c ns) 0 ≡ checked_no c
-  checked-by Fine ns = refl
-  checked-by (Refused r) ns = refl
+  checked-by : (c : Result Unit Refusal) (ns : List ℕ) → no_or (read_as c ns) 0 ≡ answer_no c
+  checked-by (Ok tt) ns = refl
+  checked-by (Err r) ns = refl
 
-  spot_no_lem : (p : Spot) → bad_no p ≡ cond (somewhere p) 11 0
-  spot_no_lem Nowhere = refl
-  spot_no_lem (At k) = refl
+  spot_no_lem : (p : Option ℕ) → bad_no p ≡ cond (somewhere p) 11 0
+  spot_no_lem None = refl
+  spot_no_lem (Some k) = refl
 
   letters-no : 12 ≤ length s → no_or (letters_of letters) 0 ≡ cond (somewhere (bad_place s)) 11 0
   unfolding letters_of
@@ -107,49 +102,49 @@ unfolding read_report
 report_used s = used-by (2 + promised s) (report_said s) ∙ rw (said_no s) refl
 
 -- the place
-abbrev place_by : Read (List ℕ) → Spot
-place_by (good ns) = Nowhere
+abbrev place_by : Read (List ℕ) → Option ℕ
+place_by (good ns) = None
 place_by (bad r) = place_of r
 
-place-check : (fails : Bool) (r : Refusal) (x : Read (List ℕ)) (m : ℕ) (p : Spot) → place_of r ≡ Nowhere → eqb (number_of r) 11 ≡ false
-    → (fails ≡ false → place_by x ≡ cond (eqb m 11) p Nowhere)
-    → place_by (cond fails (bad r) x) ≡ cond (eqb (cond fails (number_of r) m) 11) p Nowhere
+place-check : (fails : Bool) (r : Refusal) (x : Read (List ℕ)) (m : ℕ) (p : Option ℕ) → place_of r ≡ None → eqb (number_of r) 11 ≡ false
+    → (fails ≡ false → place_by x ≡ cond (eqb m 11) p None)
+    → place_by (cond fails (bad r) x) ≡ cond (eqb (cond fails (number_of r) m) 11) p None
 place-check true r x m p e f h = rw (e, f) refl
 place-check false r x m p e f h = h refl
 
-or_check : (a b : Bool) (x : Read (List ℕ)) (m : ℕ) (p : Spot) → (a ≡ false → b ≡ false → place_by x ≡ cond (eqb m 11) p Nowhere)
-    → place_by (cond a (bad Short) (cond b (bad Short) x)) ≡ cond (eqb (cond (a || b) 1 m) 11) p Nowhere
+or_check : (a b : Bool) (x : Read (List ℕ)) (m : ℕ) (p : Option ℕ) → (a ≡ false → b ≡ false → place_by x ≡ cond (eqb m 11) p None)
+    → place_by (cond a (bad Short) (cond b (bad Short) x)) ≡ cond (eqb (cond (a || b) 1 m) 11) p None
 or_check true b x m p h = refl
 or_check false true x m p h = refl
 or_check false false x m p h = h refl refl
 
-checked-place : (c : Checked) (ns : List ℕ) → place_by (read_as c ns) ≡ checked_place c
-checked-place Fine ns = refl
-checked-place (Refused r) ns = refl
+checked-place : (c : Result Unit Refusal) (ns : List ℕ) → place_by (read_as c ns) ≡ answer_place c
+checked-place (Ok tt) ns = refl
+checked-place (Err r) ns = refl
 
-spot_place : (p : Spot) → p ≡ cond (eqb (cond (somewhere p) 11 0) 11) p Nowhere
-spot_place Nowhere = refl
-spot_place (At k) = refl
+spot_place : (p : Option ℕ) → p ≡ cond (eqb (cond (somewhere p) 11 0) 11) p None
+spot_place None = refl
+spot_place (Some k) = refl
 
 letters-place : (s : List ℕ) → 12 ≤ length s
-    → place_by (letters_of (letters s)) ≡ cond (eqb (cond (somewhere (bad_place s)) 11 0) 11) (bad_place s) Nowhere
+    → place_by (letters_of (letters s)) ≡ cond (eqb (cond (somewhere (bad_place s)) 11 0) 11) (bad_place s) None
 unfolding letters_of
 letters-place s h =
     checked-place (read_of (letters s)).answer (read_of (letters s)).cells ∙ read-place (letters s) ∙ rw (nine-letters s h)
     (spot_place (bad_place s))
 
-bits_place : (n : ℕ) (p : Spot) → place_by (bits_of n) ≡ cond (eqb (cond (leb (2 ^ 18) n) 14 0) 11) p Nowhere
+bits_place : (n : ℕ) (p : Option ℕ) → place_by (bits_of n) ≡ cond (eqb (cond (leb (2 ^ 18) n) 14 0) 11) p None
 unfolding bits_of
 bits_place n p = place-check (leb (2 ^ 18) n) TopBits (good (unpacked_of n)) 0 p refl refl (λ h. refl)
 
 cells-place : (s : List ℕ) → 2 + length_for (byte_at s 2) ≤ length s
-    → place_by (cells_said s) ≡ cond (eqb (cells_no s) 11) (bad_place s) Nowhere
+    → place_by (cells_said s) ≡ cond (eqb (cells_no s) 11) (bad_place s) None
 unfolding cells_said
 cells-place s h = told (eqb (byte_at s 2) 1)
     (λ v. rw v (letters-place s (omega (arith, h, length_long (byte_at s 2) (eqb-true _ _ v)))))
     (λ v. rw v (bits_place (three_bytes_at s 3) (bad_place s)))
 
-said-place : (s : List ℕ) → place_by (report_said s) ≡ cond (eqb (report_no s) 11) (bad_place s) Nowhere
+said-place : (s : List ℕ) → place_by (report_said s) ≡ cond (eqb (report_no s) 11) (bad_place s) None
 unfolding report_said report_no first_no
 said-place s =
     or_check (ltb (length s) 2) (ltb (length s) (2 + promised s)) _ _ (bad_place s) (λ a b.
@@ -161,16 +156,16 @@ place-by : (n : ℕ) (x : Read (List ℕ)) → answer_place (report_as n x).answ
 place-by n (good ns) = refl
 place-by n (bad r) = refl
 
-pub report-place : (s : List ℕ) → answer_place (read_report s).answer ≡ cond (eqb (report_no s) 11) (bad_place s) Nowhere
+pub report-place : (s : List ℕ) → answer_place (read_report s).answer ≡ cond (eqb (report_no s) 11) (bad_place s) None
 unfolding read_report
 report-place s = place-by (2 + promised s) (report_said s) ∙ said-place s
 
 -- it is 0 to 8
-place-below : (t : Bool) (p : Spot) (k n : ℕ) → (p ≡ At k → k < n) → cond t p Nowhere ≡ At k → k < n
+place-below : (t : Bool) (p : Option ℕ) (k n : ℕ) → (p ≡ Some k → k < n) → cond t p None ≡ Some k → k < n
 place-below true p k n h e = h e
-place-below false p k n h e = nowhere-at e
+place-below false p k n h e = none_some e
 
-pub place-small : (s : List ℕ) (k : ℕ) → answer_place (read_report s).answer ≡ At k → k < 9
+pub place-small : (s : List ℕ) (k : ℕ) → answer_place (read_report s).answer ≡ Some k → k < 9
 place-small s k e =
     place-below (eqb (report_no s) 11) (bad_place s) k 9
     (λ p. omega (arith, bad-within good_byte 0 k (take 9 (drop 3 s)) p, length-take 9 (drop 3 s))) (sym (report-place s) ∙ e)
@@ -178,9 +173,9 @@ place-small s k e =
 -- ---- converting
 
 -- the refusal that was read, or what follows
-abbrev wrote_or : Read (List ℕ) → Answer → Answer
+abbrev wrote_or : Read (List ℕ) → Result ℕ Refusal → Result ℕ Refusal
 wrote_or (good ns) a = a
-wrote_or (bad r) a = A.Refused r
+wrote_or (bad r) a = Err r
 
 -- the other form has the other length
 other_length_lem : (s ns : List ℕ) → length (other_form s ns) ≡ other_length s
@@ -199,7 +194,7 @@ module _ (s buf : List ℕ) (at : ℕ) where
   unfolding convert_of other_bytes
   convert-is = alike (report_said s)
 
-  no-by : (x : Read (List ℕ)) (a : Answer) → answer_no (wrote_or x a) ≡ cond (eqb (no_or x 0) 0) (answer_no a) (no_or x 0)
+  no-by : (x : Read (List ℕ)) (a : Result ℕ Refusal) → answer_no (wrote_or x a) ≡ cond (eqb (no_or x 0) 0) (answer_no a) (no_or x 0)
   no-by (good ns) a = refl
   no-by (bad r) a = rw (some_number r) refl
 
@@ -210,17 +205,17 @@ module _ (s buf : List ℕ) (at : ℕ) where
       ∙ rw (said_no s, write-number (other_length s) buf at) refl
 
   -- a place is the report's
-  where-by : (x : Read (List ℕ)) (a : Answer) → answer_place a ≡ Nowhere → answer_place (wrote_or x a) ≡ place_by x
+  where-by : (x : Read (List ℕ)) (a : Result ℕ Refusal) → answer_place a ≡ None → answer_place (wrote_or x a) ≡ place_by x
   where-by (good ns) a e = e
   where-by (bad r) a e = refl
 
-  pub convert-place : answer_place (convert_of s buf at) ≡ cond (eqb (report_no s) 11) (bad_place s) Nowhere
+  pub convert-place : answer_place (convert_of s buf at) ≡ cond (eqb (report_no s) 11) (bad_place s) None
   convert-place =
       ap answer_place convert-is ∙ where-by (report_said s) (wrote_of (other_length s) buf at) (write-place (other_length s) buf at)
       ∙ said-place s
 
   -- bytes are used where nothing is refused
-  used-or : (x : Read (List ℕ)) (a : Answer) → used_of (wrote_or x a) ≡ cond (eqb (no_or x 0) 0) (used_of a) 0
+  used-or : (x : Read (List ℕ)) (a : Result ℕ Refusal) → used_of (wrote_or x a) ≡ cond (eqb (no_or x 0) 0) (used_of a) 0
   used-or (good ns) a = refl
   used-or (bad r) a = rw (some_number r) refl
 
@@ -235,7 +230,7 @@ module _ (s buf : List ℕ) (at : ℕ) where
       first-no m = told (eqb m 0) (λ t. rw t refl) (λ f. rw (f, f) refl)
 
 -- ---- so a report's answer is small: read, written or converted
-pub record Twelve (a : Answer) : Type 0 where
+pub record Twelve (a : Result ℕ Refusal) : Type 0 where
   pub used : used_of a ≤ 12
   pub place : spot_no (answer_place a) < 9
 
@@ -257,9 +252,9 @@ other-most s = go (eqb (byte_at s 2) 1)
     go true = omega arith
     go false = omega arith
 
-spot_by : (p : Spot) → ((k : ℕ) → p ≡ At k → k < 9) → spot_no p < 9
-spot_by Nowhere h = omega arith
-spot_by (At k) h = h k refl
+spot_by : (p : Option ℕ) → ((k : ℕ) → p ≡ Some k → k < 9) → spot_no p < 9
+spot_by None h = omega arith
+spot_by (Some k) h = h k refl
 
 used-small : (s : List ℕ) (x : Read (List ℕ)) → report_said s ≡ x → used_of (report_as (2 + promised s) x).answer ≤ 12
 used-small s (good ns) e = omega (arith, (steps s ns e).pair, length_most (byte_at s 2))

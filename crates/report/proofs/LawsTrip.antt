@@ -1,4 +1,6 @@
 -- Round trips of stored reports: reading what was written, writing again what was read, converting there and back. Assumes nothing.
+use Rattle.std.specs.Prelude.{Result, Ok, Err}
+use Rattle.de9im.specs.declared.refusal.Refusal.{Refusal}
 use Prim.Native.Nat.{ℕ, suc, ◌+◌, ◌/◌, ◌%◌, ◌^◌, ◌≤◌, ◌<◌}
 use mathlib.Core.Path.{◌≡◌, refl, sym, ap, ◌∙◌}
 use mathlib.Core.Bool.{true, false, ◌||◌}
@@ -7,11 +9,8 @@ use native.Mathlib.Omega.{arith}
 use borrow.Author.Tests.{eqb-true, leb-false}
 use lib.Dec.{eqb, leb}
 use lib.ListN.{length, take, drop}
-use Rattle.de9im.specs.declared.answer.Answer.TheVariants.{Used}
 use Rattle.de9im.specs.declared.answer.BytesAnswer.{BytesAnswer}
 use Rattle.de9im.specs.declared.answer.CellsAnswer.{CellsAnswer}
-use Rattle.de9im.specs.declared.answer.Checked.{Checked}
-use Rattle.de9im.specs.declared.answer.Checked.TheVariants as C
 use Rattle.de9im.specs.declared.refusal.Refusal.TheVariants.{TopBits}
 use Rattle.de9im.specs.Cells.{cells_of, matrix_of}
 use Rattle.de9im.specs.EighteenBits.{packed_of, unpacked_of}
@@ -48,12 +47,12 @@ short-said ns rest =
     three_back (packed_of ns) (omega (arith, small)) in
     ap bits_of back ∙ top_clear (packed_of ns) (omega (arith, small)) ∙ ap good (packed-cells ns)
 
-pub long_read_written : (ns rest : List ℕ) → read_report (long_bytes ns ++ rest) ≡ record { answer = Used 12; cells = Cells ns }
+pub long_read_written : (ns rest : List ℕ) → read_report (long_bytes ns ++ rest) ≡ record { answer = Ok 12; cells = Cells ns }
 unfolding long_bytes
 long_read_written ns rest =
     by-cells (long_bytes ns ++ rest) (omega arith) (omega arith) refl refl refl ∙ ap (report_as 12) (long_said ns rest)
 
-pub short_read_written : (ns rest : List ℕ) → read_report (short_bytes ns ++ rest) ≡ record { answer = Used 6; cells = Cells ns }
+pub short_read_written : (ns rest : List ℕ) → read_report (short_bytes ns ++ rest) ≡ record { answer = Ok 6; cells = Cells ns }
 unfolding short_bytes
 short_read_written ns rest =
     by-cells (short_bytes ns ++ rest) (omega arith) (omega arith) refl refl refl ∙ ap (report_as 6) (short-said ns rest)
@@ -68,12 +67,12 @@ twelve ns = refl
 
 -- ---- writing again what was read
 
-letters-accepted : (p : Checked) (c ns : List ℕ) → read_as p c ≡ good ns
+letters-accepted : (p : Result Unit Refusal) (c ns : List ℕ) → read_as p c ≡ good ns
     → ◌≡◌ {A = CellsAnswer} (record { answer = p; cells = c }) (T.accepted ns)
-letters-accepted C.Fine c ns e =
+letters-accepted (Ok tt) c ns e =
     let f : c ≡ ns = cc in
     rw f refl
-letters-accepted (C.Refused r) c ns e = bad-good e
+letters-accepted (Err r) c ns e = bad-good e
 
 letters-read : (t ns : List ℕ) → letters_of t ≡ good ns → T.read_of t ≡ T.accepted ns
 unfolding letters_of
@@ -174,15 +173,15 @@ module _ (s ns bs rest : List ℕ) (e : report_said s ≡ good ns) (o : other_by
   long-bytes : eqb (byte_at s 2) 1 ≡ false → long_bytes ns ≡ bs
   long-bytes v = good_same (sym (from-short s ns e v) ∙ o)
 
-  pub same-cells : read_report (bs ++ rest) ≡ record { answer = Used (length bs); cells = ns }
+  pub same-cells : read_report (bs ++ rest) ≡ record { answer = Ok (length bs); cells = ns }
   same-cells = told (eqb (byte_at s 2) 1)
       (λ v. ap (λ (x : List ℕ). read_report (x ++ rest)) (sym (short-bytes v)) ∙ short_read_written ns rest
-      ∙ read_as_lem 6 (short_bytes ns) (six ns) ∙ ap (λ (x : List ℕ). record { answer = Used (length x); cells = ns }) (short-bytes v))
+      ∙ read_as_lem 6 (short_bytes ns) (six ns) ∙ ap (λ (x : List ℕ). record { answer = Ok (length x); cells = ns }) (short-bytes v))
       (λ v. ap (λ (x : List ℕ). read_report (x ++ rest)) (sym (long-bytes v)) ∙ long_read_written ns rest
-      ∙ read_as_lem 12 (long_bytes ns) (twelve ns) ∙ ap (λ (x : List ℕ). record { answer = Used (length x); cells = ns }) (long-bytes v))
+      ∙ read_as_lem 12 (long_bytes ns) (twelve ns) ∙ ap (λ (x : List ℕ). record { answer = Ok (length x); cells = ns }) (long-bytes v))
     where
       read_as_lem : (n : ℕ) (x : List ℕ) → length x ≡ n
-          → ◌≡◌ {A = BytesAnswer} (record { answer = Used n; cells = Cells ns }) (record { answer = Used (length x); cells = ns })
+          → ◌≡◌ {A = BytesAnswer} (record { answer = Ok n; cells = Cells ns }) (record { answer = Ok (length x); cells = ns })
       read_as_lem n x h = rw (h, cells-read s ns e) refl
 
 -- the numbers that were said, if any were
@@ -192,7 +191,7 @@ sayings (bad r) = []
 
 -- there and back gives the first bytes again, whatever follows
 module _ (s ns rest : List ℕ) (small : AreBytes s) (e : report_said s ≡ good ns) where
-  read_back : (x : List ℕ) (n : ℕ) → read_report x ≡ record { answer = Used n; cells = Cells ns } → report_said x ≡ good ns
+  read_back : (x : List ℕ) (n : ℕ) → read_report x ≡ record { answer = Ok n; cells = Cells ns } → report_said x ≡ good ns
   read_back x n r =
       (accepted x n (ap (λ (a : BytesAnswer). a.answer) r)).1
       ∙ ap good (ap (λ (a : BytesAnswer). a.cells) r ∙ cells-read s ns e)
@@ -230,7 +229,7 @@ there_and_back s bs rest small o =
 
 -- and a converted report is read as the first one is
 pub same-matrix : (s bs rest : List ℕ) → other_bytes s ≡ good bs
-    → read_report (bs ++ rest) ≡ record { answer = Used (length bs); cells = (read_report s).cells }
+    → read_report (bs ++ rest) ≡ record { answer = Ok (length bs); cells = (read_report s).cells }
 unfolding read_report
 same-matrix s bs rest o =
     let e = converted_said s bs o in

@@ -1,5 +1,7 @@
 -- Request R-12: "Exchanging A and B in every record, from a transposed start, gives the transposed matrix", of any bytes: accepted exactly
 -- when the other is, refused by the same number at the same offset, and the transposed nine numbers. Assumes nothing.
+use Rattle.std.specs.Prelude.{Result, Ok, Err}
+use Rattle.de9im.specs.declared.refusal.Refusal.{Refusal}
 use Prim.Native.Nat.{ℕ, zero, suc, ◌+◌, ◌*◌, ◌≤◌, ◌<◌}
 use mathlib.Core.Path.{◌≡◌, refl, sym, ap, ◌∙◌}
 use mathlib.Core.Bool.{Bool, true, false}
@@ -9,8 +11,6 @@ use lib.Dec.{ltb}
 use borrow.Author.Tests.{ltb-true, ltb-false}
 use lib.ListN.{length, take, drop, get_or, length-append, length-take, length-drop, drop_of_length-le}
 use lib.Seq.{take_all, length-take-le, get_or-take, drop_at}
-use Rattle.de9im.specs.declared.answer.Answer.{Answer}
-use Rattle.de9im.specs.declared.answer.Answer.TheVariants as A
 use Rattle.de9im.specs.declared.answer.BytesAnswer.{BytesAnswer}
 use Rattle.de9im.specs.Cells.{cells_of, matrix_of}
 use Rattle.de9im.specs.Matrix.{Matrix, transposed_of, start_matrix}
@@ -78,7 +78,7 @@ module _ (ns s : List ℕ) where
   poured-by : (u : ℕ) (x : Read Said) → said_of s ≡ x → poured_by (flipped ns) u (mapped other_said x) ≡ flipped_bytes (poured_by ns u x)
   poured-by u (bad r) e = refl
   poured-by u (good x) e =
-      ap (λ (l : List ℕ). record { answer = A.Used u; cells = l })
+      ap (λ (l : List ℕ). record { answer = Ok u; cells = l })
       (poured-flipped (said-poured s x e ns)
       (said-poured (other_record s) (other_said x) (record-said s ∙ ap (mapped other_said) e) (flipped ns)) (said_into_other x))
 
@@ -134,19 +134,19 @@ module _ (k : ℕ) (ns s : List ℕ) where
       by true e = first_part (ltb-true _ _ e)
       by false e = first-whole (ltb-false _ _ e)
 
-  floor-by : (x : Answer) → 0 < length s → (record_of ns s).answer ≡ x
+  floor-by : (x : Result ℕ Refusal) → 0 < length s → (record_of ns s).answer ≡ x
       → (floor_of (flipped (record_of ns s).cells) others ≡ flipped_floor (floor_of (record_of ns s).cells (drop size s)))
       → floor_of (flipped ns) (other_record (take size s) ++ others) ≡ flipped_floor (floor_of ns s)
-  floor-by (A.Refused r) h e rest =
-      let f : (record_of (flipped ns) (other_record (take size s) ++ others)).answer ≡ A.Refused r =
+  floor-by (Err r) h e rest =
+      let f : (record_of (flipped ns) (other_record (take size s) ++ others)).answer ≡ Err r =
       ap (λ (x : BytesAnswer). x.answer) first-exchanged ∙ e in
       let some : 0 < length (other_record (take size s) ++ others) =
       omega (arith, length-append (other_record (take size s)) others, record-length (take size s), length-take size s) in
       floor-refused (flipped ns) (other_record (take size s) ++ others) r some f ∙
       sym (ap flipped_floor (floor-refused ns s r h e))
-  floor-by (A.Used u) h e rest =
+  floor-by (Ok u) h e rest =
       let p = spent ns s u e in
-      let f : (record_of (flipped ns) (other_record (take size s) ++ others)).answer ≡ A.Used u =
+      let f : (record_of (flipped ns) (other_record (take size s) ++ others)).answer ≡ Ok u =
       ap (λ (x : BytesAnswer). x.answer) first-exchanged ∙ e in
       let c : (record_of (flipped ns) (other_record (take size s) ++ others)).cells ≡ flipped (record_of ns s).cells =
       ap (λ (x : BytesAnswer). x.cells) first-exchanged in

@@ -1,5 +1,8 @@
 -- Exchanging A and B in every end of a node, and in the node, exchanges them in each label of its completed star; refusal 9 stays; and what
 -- is poured is poured into the cell with row and column exchanged. Assumes nothing.
+use Rattle.std.specs.Prelude.{Option, Some}
+use Rattle.de9im.specs.declared.coordinate_position.CoordPos.{CoordPos}
+use Rattle.de9im.specs.declared.coordinate_position.CoordPos.TheVariants.{Inside, OnBoundary, Outside}
 use Prim.Native.Nat.{ℕ}
 use mathlib.Core.Path.{◌≡◌, refl, ap, ◌∙◌}
 use mathlib.Core.Bool.{Bool, true, false, cond, and_comm, or_comm}
@@ -7,8 +10,6 @@ use mathlib.Core.List.{List, [], ◌∷◌, map}
 use lib.Dec.{eqb}
 use Rattle.de9im.specs.declared.dimensions.Dimensions.{Dimensions}
 use Rattle.de9im.specs.declared.dimensions.Dimensions.TheVariants.{ZeroDimensional, OneDimensional, TwoDimensional}
-use Rattle.de9im.specs.declared.coordinate_position.Position.{Position}
-use Rattle.de9im.specs.declared.coordinate_position.Position.TheVariants.{Inside, OnBoundary, Outside}
 use Rattle.de9im.specs.Position.{row_of}
 use Rattle.ends.specs.declared.label.Geometry.{Geometry}
 use Rattle.ends.specs.declared.label.Geometry.TheVariants.{A, B}
@@ -72,29 +73,29 @@ on_other : (g : Geometry) (es : List EdgeEnd) → on_joined (other g) (map other
 unfolding on_joined
 on_other A es =
     rw (
-      count-other (on_is B OnBoundary) (on_is A OnBoundary) (λ e. refl) es,
-      count-other (on_is B Inside)
-          (on_is A Inside) (λ e. refl) es,
+      count-other (on_is B (Some OnBoundary)) (on_is A (Some OnBoundary)) (λ e. refl) es,
+      count-other (on_is B (Some Inside))
+          (on_is A (Some Inside)) (λ e. refl) es,
     ) refl
 on_other B es =
     rw (
-      count-other (on_is A OnBoundary) (on_is B OnBoundary) (λ e. refl) es,
-      count-other (on_is A Inside)
-          (on_is B Inside) (λ e. refl) es,
+      count-other (on_is A (Some OnBoundary)) (on_is B (Some OnBoundary)) (λ e. refl) es,
+      count-other (on_is A (Some Inside))
+          (on_is B (Some Inside)) (λ e. refl) es,
     ) refl
 
 side-other : (g : Geometry) (s : Side) (es : List EdgeEnd) → side_joined (other g) s (map other_end es) ≡ side_joined g s es
 unfolding side_joined
 side-other A s es =
     rw (
-      count-other (side_is B s Inside) (side_is A s Inside) (λ e. refl) es,
-      count-other (side_is B s Outside) (side_is A s Outside) (λ e. refl) es,
+      count-other (side_is B s (Some Inside)) (side_is A s (Some Inside)) (λ e. refl) es,
+      count-other (side_is B s (Some Outside)) (side_is A s (Some Outside)) (λ e. refl) es,
     )
     refl
 side-other B s es =
     rw (
-      count-other (side_is A s Inside) (side_is B s Inside) (λ e. refl) es,
-      count-other (side_is A s Outside) (side_is B s Outside) (λ e. refl) es,
+      count-other (side_is A s (Some Inside)) (side_is B s (Some Inside)) (λ e. refl) es,
+      count-other (side_is A s (Some Outside)) (side_is B s (Some Outside)) (λ e. refl) es,
     )
     refl
 
@@ -137,7 +138,7 @@ start-other g [] = refl
 start-other A (l ∷ ls) = rw (start-other A ls) refl
 start-other B (l ∷ ls) = rw (start-other B ls) refl
 
-from-other : (g : Geometry) (p : Position) (ls : List Label)
+from-other : (g : Geometry) (p : Option CoordPos) (ls : List Label)
     → walk_from (other g) p (map other_label ls) ≡ map other_label (walk_from g p ls)
 unfolding walk_from
 from-other g p [] = refl
@@ -154,13 +155,13 @@ walk-other g ls = rw (start-other g ls, from-other g (start_of g ls) ls) (by (is
     by false = refl
 
 -- and the two walks don't meddle with each other
-start-past : (g : Geometry) (p : Position) (ls : List Label) → start_of (other g) (walk_from g p ls) ≡ start_of (other g) ls
+start-past : (g : Geometry) (p : Option CoordPos) (ls : List Label) → start_of (other g) (walk_from g p ls) ≡ start_of (other g) ls
 unfolding start_of walk_from
 start-past g p [] = refl
 start-past A p (l ∷ ls) = rw (start-past A (walk_next l.area p l.a) ls) refl
 start-past B p (l ∷ ls) = rw (start-past B (walk_next l.area p l.b) ls) refl
 
-from_past : (p q : Position) (ls : List Label) → walk_from A p (walk_from B q ls) ≡ walk_from B q (walk_from A p ls)
+from_past : (p q : Option CoordPos) (ls : List Label) → walk_from A p (walk_from B q ls) ≡ walk_from B q (walk_from A p ls)
 unfolding walk_from
 from_past p q [] = refl
 from_past p q (l ∷ ls) = rw (from_past (walk_next l.area p l.a) (walk_next l.area q l.b) ls) refl
@@ -184,17 +185,17 @@ unfolding any
 any-other t u f [] = refl
 any-other t u f (l ∷ ls) = rw (f l, any-other t u f ls) refl
 
-fill-other : (p q : Position) (ls : List Label) → map (fill_label q p) (map other_label ls) ≡ map other_label (map (fill_label p q) ls)
+fill-other : (p q : Option CoordPos) (ls : List Label) → map (fill_label q p) (map other_label ls) ≡ map other_label (map (fill_label p q) ls)
 fill-other p q [] = refl
 fill-other p q (l ∷ ls) = rw (fill-other p q ls) refl
 
-filled-other : (p q : Position) (ls : List Label) → filled_of q p (map other_label ls) ≡ map other_label (filled_of p q ls)
+filled-other : (p q : Option CoordPos) (ls : List Label) → filled_of q p (map other_label ls) ≡ map other_label (filled_of p q ls)
 unfolding filled_of
 filled-other p q ls =
     rw (any-other (collapses A) (collapses B) (λ l. refl) ls, any-other (collapses B) (collapses A) (λ l. refl) ls)
     (fill-other (rest_of (collapsed A ls) p) (rest_of (collapsed B ls) q) ls)
 
-pub completed_other : (p q : Position) (ls : List Label) → completed_of q p (map other_label ls) ≡ map other_label (completed_of p q ls)
+pub completed_other : (p q : Option CoordPos) (ls : List Label) → completed_of q p (map other_label ls) ≡ map other_label (completed_of p q ls)
 completed_other p q ls = ap (filled_of q p) (walked-other ls) ∙ filled-other p q (walked_of ls)
 
 -- refusal 9
@@ -210,7 +211,7 @@ missing-other ls =
     (or_comm (missing B ls) (missing A ls))
 
 -- pouring
-into-other : (a b : Position) (d : Dimensions) (i j : ℕ) → into b a d i j ≡ into a b d j i
+into-other : (a b : Option CoordPos) (d : Dimensions) (i j : ℕ) → into b a d i j ≡ into a b d j i
 into-other a b d i j = rw (and_comm (eqb (row_of b) i) (eqb (row_of a) j)) refl
 
 label-other : (l : Label) (i j : ℕ) → label_into (other_label l) i j ≡ label_into l j i

@@ -1,16 +1,15 @@
 -- Request R-12: "For accepted records, reordering .. the records of a run, gives the same nine cells". A run is one string of bytes that
 -- `floor_of` of `plan` accepts to the end. Assumes nothing.
+use Rattle.std.specs.Prelude.{Result, Ok, Err}
+use Rattle.de9im.specs.declared.refusal.Refusal.{Refusal}
 use Prim.Native.Nat.{ℕ, zero, suc, ◌+◌, ◌≤◌}
 use mathlib.Core.Path.{◌≡◌, refl, sym, ap, ◌∙◌}
 use mathlib.Core.List.{List, [], ◌∷◌, ◌++◌, Permᴰ}
 use native.Mathlib.Omega.{arith}
 use lib.ListN.{length, take, drop, length-append, length-drop, take-append-drop}
 use lib.Seq.{length-take-le}
-use Rattle.de9im.specs.declared.answer.Answer.{Answer}
-use Rattle.de9im.specs.declared.answer.Answer.TheVariants as A
 use Rattle.de9im.specs.declared.answer.BytesAnswer.{BytesAnswer}
-use Rattle.de9im.specs.declared.answer.Checked.TheVariants.{Fine}
-use Rattle.de9im.proofs.LawsApart.{fine_refused}
+use Rattle.de9im.proofs.LawsApart.{ok_err}
 use Rattle.ends.specs.Every.{All, none, more}
 use Rattle.order.proofs.LawsPerm.{all_perm, perm_length}
 use Rattle.frame.specs.Read.{good}
@@ -35,19 +34,19 @@ pub record Own (s : List ℕ) : Type 0 where
   pub long : length s ≡ 2 + promised s
 
 pub own-answer : (s : List ℕ) (x : Own s) (ns : List ℕ)
-    → record_of ns s ≡ record { answer = A.Used (length s); cells = pour_said ns x.said }
+    → record_of ns s ≡ record { answer = Ok (length s); cells = pour_said ns x.said }
 unfolding record_of
 own-answer s x ns = rw (x.is, x.long) refl
 
 -- accepted records in a row are a run
 abbrev pub ran_as : List ℕ → List (List ℕ) → FloorAnswer
-ran_as ns rs = record { stop = Fine; used = length (flat rs); records = length rs; cells = after_all ns rs }
+ran_as ns rs = record { stop = (Ok tt); used = length (flat rs); records = length rs; cells = after_all ns rs }
 
 pub floor-flat : (ns : List ℕ) (rs : List (List ℕ)) → All Own rs → floor_of ns (flat rs) ≡ ran_as ns rs
 unfolding flat after_all
 floor-flat ns [] none = floor-empty ns
 floor-flat ns (r ∷ rs) (more o os) =
-    let a : (record_of ns r).answer ≡ A.Used (length r) = ap (λ (x : BytesAnswer). x.answer) (own-answer r o ns) in
+    let a : (record_of ns r).answer ≡ Ok (length r) = ap (λ (x : BytesAnswer). x.answer) (own-answer r o ns) in
     let one : 1 + length rs ≡ suc (length rs) = omega arith in
     floor-then ns r (flat rs) a ∙ ap (behind (length r) 1) (floor-flat (record_of ns r).cells rs os) ∙
     rw (length-append r (flat rs), one) refl
@@ -63,32 +62,32 @@ flat-cut (suc k) (b ∷ s) h =
     ap (λ (l : List ℕ). take n (b ∷ s) ++ l) (flat-cut k (drop n (b ∷ s)) (omega (arith, length-drop n (b ∷ s)))) ∙
     take-append-drop n (b ∷ s)
 
-own_first : (ns s : List ℕ) (u : ℕ) → (record_of ns s).answer ≡ A.Used u → Own (take (2 + promised s) s)
+own_first : (ns s : List ℕ) (u : ℕ) → (record_of ns s).answer ≡ Ok u → Own (take (2 + promised s) s)
 own_first ns s u e =
     let p = spent ns s u e in
     let n = 2 + promised s in
-    let c : (record_of ns (take n s)).answer ≡ A.Used u =
+    let c : (record_of ns (take n s)).answer ≡ Ok u =
     ap (λ (x : BytesAnswer). x.answer) (cut_out ns s n (omega arith) p.whole) ∙ e in
     let x = says ns (take n s) u (record_of ns (take n s)).cells (rw (← c) refl) in
     record { said = x.said; is = x.is; long = length-take-le n s p.whole ∙ sym p.used ∙ x.used }
 
-pub own-cut : (k : ℕ) (ns s : List ℕ) → length s ≤ k → (floor_of ns s).stop ≡ Fine → All Own (cut k s)
+pub own-cut : (k : ℕ) (ns s : List ℕ) → length s ≤ k → (floor_of ns s).stop ≡ (Ok tt) → All Own (cut k s)
 unfolding cut
 own-cut zero ns s h e = none
 own-cut (suc k) ns [] h e = none
 own-cut (suc k) ns (b ∷ s) h e = by (record_of ns (b ∷ s)).answer refl (λ ms l f. own-cut k ms (drop (2 + promised (b ∷ s)) (b ∷ s)) l f)
   where
-    by : (x : Answer) → (record_of ns (b ∷ s)).answer ≡ x
+    by : (x : Result ℕ Refusal) → (record_of ns (b ∷ s)).answer ≡ x
         → ((ms : List ℕ) → length (drop (2 + promised (b ∷ s)) (b ∷ s)) ≤ k
-        → (floor_of ms (drop (2 + promised (b ∷ s)) (b ∷ s))).stop ≡ Fine
+        → (floor_of ms (drop (2 + promised (b ∷ s)) (b ∷ s))).stop ≡ Ok tt
         → All Own (cut k (drop (2 + promised (b ∷ s)) (b ∷ s))))
         → All Own (take (2 + promised (b ∷ s)) (b ∷ s) ∷ cut k (drop (2 + promised (b ∷ s)) (b ∷ s)))
-    by (A.Refused r) q rest =
-        fine_refused (sym e ∙ ap (λ (f : FloorAnswer). f.stop) (floor-refused ns (b ∷ s) r (omega arith) q))
-    by (A.Used u) q rest =
+    by (Err r) q rest =
+        ok_err (sym e ∙ ap (λ (f : FloorAnswer). f.stop) (floor-refused ns (b ∷ s) r (omega arith) q))
+    by (Ok u) q rest =
         let n = 2 + promised (b ∷ s) in
         let p = spent ns (b ∷ s) u q in
-        let f : (floor_of (record_of ns (b ∷ s)).cells (drop u (b ∷ s))).stop ≡ Fine =
+        let f : (floor_of (record_of ns (b ∷ s)).cells (drop u (b ∷ s))).stop ≡ (Ok tt) =
         sym (ap (λ (g : FloorAnswer). g.stop) (floor-accepted ns (b ∷ s) u q)) ∙ e in
         more (own_first ns (b ∷ s) u q)
         (rest (record_of ns (b ∷ s)).cells (omega (arith, length-drop n (b ∷ s))) (rw p.used at f))
@@ -126,14 +125,14 @@ flat_perm (Permᴰ.swap {a = x} {b = y} {l = l} e f) =
 flat_perm (Permᴰ.trans p q) = flat_perm p ∙ flat_perm q
 
 -- an accepted run is its records in a row
-pub run-cut : (ns s : List ℕ) → (floor_of ns s).stop ≡ Fine → (All Own (records_of s)) × (floor_of ns s ≡ ran_as ns (records_of s))
+pub run-cut : (ns s : List ℕ) → (floor_of ns s).stop ≡ (Ok tt) → (All Own (records_of s)) × (floor_of ns s ≡ ran_as ns (records_of s))
 unfolding records_of
 run-cut ns s e =
     let o = own-cut (length s) ns s (omega arith) e in
     (o, ap (floor_of ns) (sym (flat-cut (length s) s (omega arith))) ∙ floor-flat ns (cut (length s) s) o)
 
 -- the records of an accepted run in any other order: accepted, as many bytes, as many records, the same nine cells
-pub records_reordered : (ns s : List ℕ) (qs : List (List ℕ)) → (floor_of ns s).stop ≡ Fine → Permᴰ (records_of s) qs
+pub records_reordered : (ns s : List ℕ) (qs : List (List ℕ)) → (floor_of ns s).stop ≡ (Ok tt) → Permᴰ (records_of s) qs
     → floor_of ns (flat qs) ≡ floor_of ns s
 records_reordered ns s qs e p =
     let r = run-cut ns s e in
@@ -144,18 +143,18 @@ flat-ends : {rs qs : List (List ℕ)} (ns : List ℕ) → All Own rs → Reorder
 unfolding flat
 flat-ends ns none no_record = refl
 flat-ends ns (more o os) (a_record {r = r} {rs = rs} {qs = qs} bs p t) =
-    let a : (record_of ns r).answer ≡ A.Used (length r) = ap (λ (x : BytesAnswer). x.answer) (own-answer r o ns) in
+    let a : (record_of ns r).answer ≡ Ok (length r) = ap (λ (x : BytesAnswer). x.answer) (own-answer r o ns) in
     let kept = ends-reordered ns r (length r) a bs p in
     let long = ends_long ns r (length r) a bs p in
-    let b : (record_of ns (with_ends r bs)).answer ≡ A.Used (length (with_ends r bs)) =
-    ap (λ (x : BytesAnswer). x.answer) kept ∙ a ∙ ap A.Used long in
+    let b : (record_of ns (with_ends r bs)).answer ≡ Ok (length (with_ends r bs)) =
+    ap (λ (x : BytesAnswer). x.answer) kept ∙ a ∙ ap Ok long in
     floor-then ns (with_ends r bs) (flat qs) b ∙
     ap (λ (n : ℕ). behind n 1 (floor_of (record_of ns (with_ends r bs)).cells (flat qs))) (sym long) ∙
     ap (λ (x : BytesAnswer). behind (length r) 1 (floor_of x.cells (flat qs))) kept ∙
     ap (behind (length r) 1) (flat-ends (record_of ns r).cells os t) ∙ sym (floor-then ns r (flat rs) a)
 
 -- the ends of any of its nodes in any other order: accepted, as many bytes, as many records, the same nine cells
-pub run_ends_reordered : (ns s : List ℕ) (qs : List (List ℕ)) → (floor_of ns s).stop ≡ Fine → Reordered (records_of s) qs
+pub run_ends_reordered : (ns s : List ℕ) (qs : List (List ℕ)) → (floor_of ns s).stop ≡ (Ok tt) → Reordered (records_of s) qs
     → floor_of ns (flat qs) ≡ floor_of ns s
 unfolding records_of
 run_ends_reordered ns s qs e t =
