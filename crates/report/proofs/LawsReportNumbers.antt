@@ -9,6 +9,7 @@ use native.Mathlib.Omega.{arith}
 use borrow.Author.Tests.{ltb-false, eqb-true, not-false, eq-eqb}
 use lib.Dec.{eqb, ltb, leb}
 use lib.ListN.{length, take, drop, length-take, length-drop}
+use Rattle.de9im.specs.Matrix.{Matrix}
 use Rattle.de9im.specs.declared.refusal.Refusal.{Refusal}
 use Rattle.de9im.specs.declared.refusal.Refusal.TheVariants.{Short, Length, Version, TopBits}
 use Rattle.de9im.specs.Answers.{answer_no, answer_place, used_of, bad_no}
@@ -19,8 +20,19 @@ use Rattle.de9im.proofs.LawsApart.{none_some}
 use Rattle.de9im.proofs.LawsBool.{told}
 use Rattle.de9im.proofs.LawsNear.{bad-within}
 use Rattle.de9im.proofs.LawsNumbers.{read_number, read-place}
-use Rattle.frame.specs.Read.{Read, good, bad, ◌>>=◌, read_as}
-use Rattle.report.specs.Report.{letters_of, bits_of, length_for, cells_said, report_said, report_as, read_report}
+use Rattle.frame.specs.Read.{Read, good, bad, ◌>>=◌}
+use Rattle.report.specs.Report.{
+  letters_of,
+  cells_as,
+  bits_of,
+  length_for,
+  cells_said,
+  report_said,
+  report_as,
+  read_report,
+  used_alone,
+}
+use Rattle.report.specs.declared.reading.Report.{Report}
 use Rattle.report.specs.Converting.{other_form, other_bytes, wrote_as, convert_of}
 use Rattle.report.specs.ReportNumbers.{bad_place, somewhere, report_no, other_length, convert_no}
 use Rattle.frame.specs.Lent.{wrote_of, write_no}
@@ -42,9 +54,9 @@ module _ (s : List ℕ) where
   letters = take 9 (drop 3 s)
 
   -- the number
-  checked-by : (c : Result Unit Refusal) (ns : List ℕ) → no_or (read_as c ns) 0 ≡ answer_no c
-  checked-by (Ok tt) ns = refl
-  checked-by (Err r) ns = refl
+  cells-by : (x : Result Matrix Refusal) → no_or (cells_as x) 0 ≡ answer_no x
+  cells-by (Ok m) = refl
+  cells-by (Err r) = refl
 
   spot_no_lem : (p : Option ℕ) → bad_no p ≡ cond (somewhere p) 11 0
   spot_no_lem None = refl
@@ -53,7 +65,7 @@ module _ (s : List ℕ) where
   letters-no : 12 ≤ length s → no_or (letters_of letters) 0 ≡ cond (somewhere (bad_place s)) 11 0
   unfolding letters_of
   letters-no h =
-      checked-by (read_of letters).answer (read_of letters).cells ∙ read_number letters ∙ rw (nine-letters s h) (spot_no_lem (bad_place s))
+      cells-by (read_of letters) ∙ read_number letters ∙ rw (nine-letters s h) (spot_no_lem (bad_place s))
 
   -- what stands behind a good header
   abbrev cells_no : ℕ
@@ -85,19 +97,19 @@ module _ (s : List ℕ) where
       check-no (not (eqb (byte_at s 2) 1 || eqb (byte_at s 2) 2)) Version _ 0 _ (λ d.
       check-no (not (eqb (promised s) (length_for (byte_at s 2)))) Length _ 0 _ (λ f. cells-no (whole b f)))))
 
-number_by_lem : (n : ℕ) (x : Read (List ℕ)) → answer_no (report_as n x).answer ≡ no_or x 0
+number_by_lem : (n : ℕ) (x : Read (List ℕ)) → answer_no (report_as n x) ≡ no_or x 0
 number_by_lem n (good ns) = refl
 number_by_lem n (bad r) = refl
 
-used-by : (n : ℕ) (x : Read (List ℕ)) → used_of (report_as n x).answer ≡ cond (eqb (no_or x 0) 0) n 0
+used-by : (n : ℕ) (x : Read (List ℕ)) → used_of (used_alone (report_as n x)) ≡ cond (eqb (no_or x 0) 0) n 0
 used-by n (good ns) = refl
 used-by n (bad r) = rw (some_number r) refl
 
-pub report-number : (s : List ℕ) → answer_no (read_report s).answer ≡ report_no s
+pub report-number : (s : List ℕ) → answer_no (read_report s) ≡ report_no s
 unfolding read_report
 report-number s = number_by_lem (2 + promised s) (report_said s) ∙ said_no s
 
-pub report_used : (s : List ℕ) → used_of (read_report s).answer ≡ cond (eqb (report_no s) 0) (2 + promised s) 0
+pub report_used : (s : List ℕ) → used_of (used_alone (read_report s)) ≡ cond (eqb (report_no s) 0) (2 + promised s) 0
 unfolding read_report
 report_used s = used-by (2 + promised s) (report_said s) ∙ rw (said_no s) refl
 
@@ -118,9 +130,9 @@ or_check true b x m p h = refl
 or_check false true x m p h = refl
 or_check false false x m p h = h refl refl
 
-checked-place : (c : Result Unit Refusal) (ns : List ℕ) → place_by (read_as c ns) ≡ answer_place c
-checked-place (Ok tt) ns = refl
-checked-place (Err r) ns = refl
+cells_where : (x : Result Matrix Refusal) → place_by (cells_as x) ≡ answer_place x
+cells_where (Ok m) = refl
+cells_where (Err r) = refl
 
 spot_place : (p : Option ℕ) → p ≡ cond (eqb (cond (somewhere p) 11 0) 11) p None
 spot_place None = refl
@@ -130,7 +142,7 @@ letters-place : (s : List ℕ) → 12 ≤ length s
     → place_by (letters_of (letters s)) ≡ cond (eqb (cond (somewhere (bad_place s)) 11 0) 11) (bad_place s) None
 unfolding letters_of
 letters-place s h =
-    checked-place (read_of (letters s)).answer (read_of (letters s)).cells ∙ read-place (letters s) ∙ rw (nine-letters s h)
+    cells_where (read_of (letters s)) ∙ read-place (letters s) ∙ rw (nine-letters s h)
     (spot_place (bad_place s))
 
 bits_place : (n : ℕ) (p : Option ℕ) → place_by (bits_of n) ≡ cond (eqb (cond (leb (2 ^ 18) n) 14 0) 11) p None
@@ -152,11 +164,11 @@ said-place s =
     place-check (not (eqb (byte_at s 2) 1 || eqb (byte_at s 2) 2)) Version _ _ (bad_place s) refl refl (λ d.
     place-check (not (eqb (promised s) (length_for (byte_at s 2)))) Length _ _ (bad_place s) refl refl (λ f. cells-place s (whole s b f)))))
 
-place-by : (n : ℕ) (x : Read (List ℕ)) → answer_place (report_as n x).answer ≡ place_by x
+place-by : (n : ℕ) (x : Read (List ℕ)) → answer_place (report_as n x) ≡ place_by x
 place-by n (good ns) = refl
 place-by n (bad r) = refl
 
-pub report-place : (s : List ℕ) → answer_place (read_report s).answer ≡ cond (eqb (report_no s) 11) (bad_place s) None
+pub report-place : (s : List ℕ) → answer_place (read_report s) ≡ cond (eqb (report_no s) 11) (bad_place s) None
 unfolding read_report
 report-place s = place-by (2 + promised s) (report_said s) ∙ said-place s
 
@@ -165,7 +177,7 @@ place-below : (t : Bool) (p : Option ℕ) (k n : ℕ) → (p ≡ Some k → k < 
 place-below true p k n h e = h e
 place-below false p k n h e = none_some e
 
-pub place-small : (s : List ℕ) (k : ℕ) → answer_place (read_report s).answer ≡ Some k → k < 9
+pub place-small : (s : List ℕ) (k : ℕ) → answer_place (read_report s) ≡ Some k → k < 9
 place-small s k e =
     place-below (eqb (report_no s) 11) (bad_place s) k 9
     (λ p. omega (arith, bad-within good_byte 0 k (take 9 (drop 3 s)) p, length-take 9 (drop 3 s))) (sym (report-place s) ∙ e)
@@ -256,14 +268,21 @@ spot_by : (p : Option ℕ) → ((k : ℕ) → p ≡ Some k → k < 9) → spot_n
 spot_by None h = omega arith
 spot_by (Some k) h = h k refl
 
-used-small : (s : List ℕ) (x : Read (List ℕ)) → report_said s ≡ x → used_of (report_as (2 + promised s) x).answer ≤ 12
+used-small : (s : List ℕ) (x : Read (List ℕ)) → report_said s ≡ x → used_of (used_alone (report_as (2 + promised s) x)) ≤ 12
 used-small s (good ns) e = omega (arith, (steps s ns e).pair, length_most (byte_at s 2))
 used-small s (bad r) e = omega arith
 
-pub report-twelve : (s : List ℕ) → Twelve (read_report s).answer
+same-place : (x : Result Report Refusal) → answer_place (used_alone x) ≡ answer_place x
+same-place (Ok a) = refl
+same-place (Err r) = refl
+
+pub report-twelve : (s : List ℕ) → Twelve (used_alone (read_report s))
 unfolding read_report
 report-twelve s =
-    record { used = used-small s (report_said s) refl; place = spot_by (answer_place (read_report s).answer) (place-small s) }
+    record {
+      used = used-small s (report_said s) refl;
+      place = rw (same-place (read_report s)) (spot_by (answer_place (read_report s)) (place-small s));
+    }
 
 pub wrote_twelve : (n : ℕ) (buf : List ℕ) (at : ℕ) → n ≤ 12 → Twelve (wrote_of n buf at)
 wrote_twelve n buf at h =
@@ -276,5 +295,5 @@ pub convert_twelve : (s buf : List ℕ) (at : ℕ) → Twelve (convert_of s buf 
 convert_twelve s buf at =
     record {
       used = rw (convert-used s buf at) (at_most (eqb (convert_no s buf at) 0) (other_length s) (other-most s));
-      place = rw (convert-place s buf at ∙ sym (report-place s)) (spot_by (answer_place (read_report s).answer) (place-small s));
+      place = rw (convert-place s buf at ∙ sym (report-place s)) (spot_by (answer_place (read_report s)) (place-small s));
     }

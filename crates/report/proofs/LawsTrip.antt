@@ -1,27 +1,28 @@
 -- Round trips of stored reports: reading what was written, writing again what was read, converting there and back. Assumes nothing.
 use Rattle.std.specs.Prelude.{Result, Ok, Err}
+use Rattle.de9im.specs.Matrix.{Matrix}
 use Rattle.de9im.specs.declared.refusal.Refusal.{Refusal}
 use Prim.Native.Nat.{ℕ, suc, ◌+◌, ◌/◌, ◌%◌, ◌^◌, ◌≤◌, ◌<◌}
-use mathlib.Core.Path.{◌≡◌, refl, sym, ap, ◌∙◌}
+use mathlib.Core.Path.{◌≡◌, refl, sym, ap, subst, ◌∙◌}
 use mathlib.Core.Bool.{true, false, ◌||◌}
-use mathlib.Core.List.{List, [], ◌∷◌, ◌++◌}
+use mathlib.Core.List.{List, [], ◌∷◌, ◌++◌, map}
 use native.Mathlib.Omega.{arith}
 use borrow.Author.Tests.{eqb-true, leb-false}
 use lib.Dec.{eqb, leb}
 use lib.ListN.{length, take, drop}
-use Rattle.de9im.specs.declared.answer.BytesAnswer.{BytesAnswer}
-use Rattle.de9im.specs.declared.answer.CellsAnswer.{CellsAnswer}
 use Rattle.de9im.specs.declared.refusal.Refusal.TheVariants.{TopBits}
 use Rattle.de9im.specs.Cells.{cells_of, matrix_of}
 use Rattle.de9im.specs.EighteenBits.{packed_of, unpacked_of}
 use Rattle.de9im.specs.Text as T
+use Rattle.de9im.proofs.LawsDimension.{dim_back}
 use Rattle.de9im.proofs.LawsBool.{told}
 use Rattle.de9im.proofs.LawsEighteen.{packed-cells, packed-small, packed-back, unpacked-read}
-use Rattle.de9im.proofs.LawsRoundTrip.{read-written, written_read}
-use Rattle.frame.specs.Read.{Read, good, bad, ◌>>=◌, read_as}
+use Rattle.de9im.proofs.LawsRoundTrip.{read-own, written_read}
+use Rattle.frame.specs.Read.{Read, good, bad, ◌>>=◌}
 use Rattle.frame.specs.Words.{byte_at, AreBytes, promised, three_bytes, three_bytes_at}
 use Rattle.frame.proofs.LawsRead.{bad-good, passed}
-use Rattle.report.specs.Report.{long_bytes, short_bytes, letters_of, bits_of, cells_said, report_said, report_as, read_report}
+use Rattle.report.specs.Report.{long_bytes, short_bytes, letters_of, cells_as, bits_of, cells_said, report_said, report_as, read_report}
+use Rattle.report.specs.declared.reading.Report.{Report}
 use Rattle.report.specs.Converting.{other_form, other_bytes}
 use Rattle.report.proofs.LawsAccepted.{steps, accepted}
 use Rattle.report.proofs.LawsConverting.{from_long, from-short}
@@ -32,9 +33,13 @@ use Rattle.report.proofs.LawsReport.{by-cells, top_clear}
 abbrev Cells : List ℕ → List ℕ
 Cells ns = cells_of (matrix_of ns)
 
+-- the numbers of a matrix are as a matrix has them
+cells-same : (m : Matrix) → Cells (cells_of m) ≡ cells_of m
+cells-same m = simp dim_back
+
 long_said : (ns rest : List ℕ) → cells_said (long_bytes ns ++ rest) ≡ good (Cells ns)
 unfolding long_bytes cells_said letters_of
-long_said ns rest = rw (read-written (matrix_of ns)) refl
+long_said ns rest = rw (read-own (matrix_of ns)) (ap good (cells-same (matrix_of ns)))
 
 three_back : (n : ℕ) → n < 16777216 → three_bytes (n / 65536) (n / 256 % 256) (n % 256) ≡ n
 three_back n h = omega arith
@@ -47,12 +52,12 @@ short-said ns rest =
     three_back (packed_of ns) (omega (arith, small)) in
     ap bits_of back ∙ top_clear (packed_of ns) (omega (arith, small)) ∙ ap good (packed-cells ns)
 
-pub long_read_written : (ns rest : List ℕ) → read_report (long_bytes ns ++ rest) ≡ record { answer = Ok 12; cells = Cells ns }
+pub long_read_written : (ns rest : List ℕ) → read_report (long_bytes ns ++ rest) ≡ Ok (record { cells = Cells ns; used = 12 })
 unfolding long_bytes
 long_read_written ns rest =
     by-cells (long_bytes ns ++ rest) (omega arith) (omega arith) refl refl refl ∙ ap (report_as 12) (long_said ns rest)
 
-pub short_read_written : (ns rest : List ℕ) → read_report (short_bytes ns ++ rest) ≡ record { answer = Ok 6; cells = Cells ns }
+pub short_read_written : (ns rest : List ℕ) → read_report (short_bytes ns ++ rest) ≡ Ok (record { cells = Cells ns; used = 6 })
 unfolding short_bytes
 short_read_written ns rest =
     by-cells (short_bytes ns ++ rest) (omega arith) (omega arith) refl refl refl ∙ ap (report_as 6) (short-said ns rest)
@@ -67,16 +72,15 @@ twelve ns = refl
 
 -- ---- writing again what was read
 
-letters-accepted : (p : Result Unit Refusal) (c ns : List ℕ) → read_as p c ≡ good ns
-    → ◌≡◌ {A = CellsAnswer} (record { answer = p; cells = c }) (T.accepted ns)
-letters-accepted (Ok tt) c ns e =
-    let f : c ≡ ns = cc in
-    rw f refl
-letters-accepted (Err r) c ns e = bad-good e
+letters-by : (x : Result Matrix Refusal) (ns : List ℕ) → cells_as x ≡ good ns → (m : Matrix) × (x ≡ Ok m) × (cells_of m ≡ ns)
+letters-by (Ok m) ns e =
+    let f : cells_of m ≡ ns = cc in
+    (m, refl, f)
+letters-by (Err r) ns e = bad-good e
 
-letters-read : (t ns : List ℕ) → letters_of t ≡ good ns → T.read_of t ≡ T.accepted ns
+letters-read : (t ns : List ℕ) → letters_of t ≡ good ns → (m : Matrix) × (T.read_of t ≡ Ok m) × (cells_of m ≡ ns)
 unfolding letters_of
-letters-read t ns e = letters-accepted (T.read_of t).answer (T.read_of t).cells ns e
+letters-read t ns e = letters-by (T.read_of t) ns e
 
 good_same : {x y : List ℕ} → good x ≡ good y → x ≡ y
 good_same e = cc
@@ -105,6 +109,17 @@ module _ (s ns : List ℕ) (e : report_said s ≡ good ns) where
     unfolding cells_said
     letters-here = sym (rw v refl) ∙ (steps s ns e).said
 
+    -- letters are read as a matrix has them
+    long-cells : Cells ns ≡ ns
+    long-cells =
+        let r = letters-read _ ns letters-here in
+        ap Cells (sym r.2) ∙ cells-same r.0 ∙ r.2
+
+    text-here : T.text_of (matrix_of ns) ≡ take 9 (drop 3 s)
+    text-here =
+        let r = letters-read _ ns letters-here in
+        ap (map T.byte_of) (long-cells ∙ sym r.2) ∙ written_read (take 9 (drop 3 s)) r.0 r.1
+
     pub long-again : long_bytes ns ≡ take 12 s
     unfolding long_bytes
     long-again =
@@ -113,16 +128,9 @@ module _ (s ns : List ℕ) (e : report_said s ≡ good ns) where
         let b₀ : byte_at s 0 ≡ 0 = omega arith in
         let b₁ : byte_at s 1 ≡ 10 = omega arith in
         let b₂ : byte_at s 2 ≡ 1 = eqb-true _ _ v in
-        let l : T.text_of (matrix_of ns) ≡ take 9 (drop 3 s) = written_read (take 9 (drop 3 s)) ns (letters-read _ ns letters-here) in
+        let l = text-here in
         let f : byte_at s 0 ∷ byte_at s 1 ∷ byte_at s 2 ∷ take 9 (drop 3 s) ≡ take 12 s = first_three s 9 (omega (arith, p.whole)) in
         cc
-
-    -- letters are read as a matrix has them
-    long-cells : Cells ns ≡ ns
-    long-cells =
-        let t = take 9 (drop 3 s) in
-        let r = letters-read t ns letters-here in
-        ap (λ (a : CellsAnswer). a.cells) (sym (read-written (matrix_of ns)) ∙ ap T.read_of (written_read t ns r) ∙ r)
 
   module _ (v : eqb (byte_at s 2) 1 ≡ false) where
     bits-here : bits_of (three_bytes_at s 3) ≡ good ns
@@ -173,16 +181,16 @@ module _ (s ns bs rest : List ℕ) (e : report_said s ≡ good ns) (o : other_by
   long-bytes : eqb (byte_at s 2) 1 ≡ false → long_bytes ns ≡ bs
   long-bytes v = good_same (sym (from-short s ns e v) ∙ o)
 
-  pub same-cells : read_report (bs ++ rest) ≡ record { answer = Ok (length bs); cells = ns }
+  abbrev Says : List ℕ → Type 0
+  Says x = read_report (x ++ rest) ≡ Ok (record { cells = ns; used = length x })
+
+  says : (n : ℕ) (x : List ℕ) → read_report (x ++ rest) ≡ Ok (record { cells = Cells ns; used = n }) → length x ≡ n → Says x
+  says n x r h = r ∙ rw (cells-read s ns e, h) refl
+
+  pub same-cells : read_report (bs ++ rest) ≡ Ok (record { cells = ns; used = length bs })
   same-cells = told (eqb (byte_at s 2) 1)
-      (λ v. ap (λ (x : List ℕ). read_report (x ++ rest)) (sym (short-bytes v)) ∙ short_read_written ns rest
-      ∙ read_as_lem 6 (short_bytes ns) (six ns) ∙ ap (λ (x : List ℕ). record { answer = Ok (length x); cells = ns }) (short-bytes v))
-      (λ v. ap (λ (x : List ℕ). read_report (x ++ rest)) (sym (long-bytes v)) ∙ long_read_written ns rest
-      ∙ read_as_lem 12 (long_bytes ns) (twelve ns) ∙ ap (λ (x : List ℕ). record { answer = Ok (length x); cells = ns }) (long-bytes v))
-    where
-      read_as_lem : (n : ℕ) (x : List ℕ) → length x ≡ n
-          → ◌≡◌ {A = BytesAnswer} (record { answer = Ok n; cells = Cells ns }) (record { answer = Ok (length x); cells = ns })
-      read_as_lem n x h = rw (h, cells-read s ns e) refl
+      (λ v. subst Says (short-bytes v) (says 6 (short_bytes ns) (short_read_written ns rest) (six ns)))
+      (λ v. subst Says (long-bytes v) (says 12 (long_bytes ns) (long_read_written ns rest) (twelve ns)))
 
 -- the numbers that were said, if any were
 abbrev sayings : Read (List ℕ) → List ℕ
@@ -191,10 +199,8 @@ sayings (bad r) = []
 
 -- there and back gives the first bytes again, whatever follows
 module _ (s ns rest : List ℕ) (small : AreBytes s) (e : report_said s ≡ good ns) where
-  read_back : (x : List ℕ) (n : ℕ) → read_report x ≡ record { answer = Ok n; cells = Cells ns } → report_said x ≡ good ns
-  read_back x n r =
-      (accepted x n (ap (λ (a : BytesAnswer). a.answer) r)).1
-      ∙ ap good (ap (λ (a : BytesAnswer). a.cells) r ∙ cells-read s ns e)
+  read_back : (x : List ℕ) (n : ℕ) → read_report x ≡ Ok (record { cells = Cells ns; used = n }) → report_said x ≡ good ns
+  read_back x n r = (accepted x _ r).1 ∙ ap good (cells-read s ns e)
 
   back_long : eqb (byte_at s 2) 1 ≡ true → other_bytes (short_bytes ns ++ rest) ≡ good (take (2 + promised s) s)
   unfolding short_bytes
@@ -228,9 +234,6 @@ there_and_back s bs rest small o =
     (λ v. ap (λ (x : List ℕ). other_bytes (x ++ rest)) (sym (long-bytes s ns bs rest e o v)) ∙ back-short s ns rest small e v)
 
 -- and a converted report is read as the first one is
-pub same-matrix : (s bs rest : List ℕ) → other_bytes s ≡ good bs
-    → read_report (bs ++ rest) ≡ record { answer = Ok (length bs); cells = (read_report s).cells }
-unfolding read_report
-same-matrix s bs rest o =
-    let e = converted_said s bs o in
-    same-cells s (sayings (report_said s)) bs rest e o ∙ rw e refl
+pub same-matrix : (s bs rest : List ℕ) (a : Report) → other_bytes s ≡ good bs → read_report s ≡ Ok a
+    → read_report (bs ++ rest) ≡ Ok (record { cells = a.cells; used = length bs })
+same-matrix s bs rest a o e = same-cells s a.cells bs rest (accepted s a e).1 o
