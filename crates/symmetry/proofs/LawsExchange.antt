@@ -11,7 +11,7 @@ use lib.Dec.{ltb}
 use borrow.Author.Tests.{ltb-true, ltb-false}
 use lib.ListN.{length, take, drop, get_or, length-append, length-take, length-drop, drop_of_length-le}
 use lib.Seq.{take_all, length-take-le, get_or-take, drop_at}
-use Rattle.de9im.specs.declared.answer.BytesAnswer.{BytesAnswer}
+use Rattle.de9im.specs.Answers.{BytesAnswer}
 use Rattle.de9im.specs.Cells.{cells_of, matrix_of}
 use Rattle.de9im.specs.Matrix.{Matrix, transposed_of, start_matrix}
 use Rattle.walks.proofs.LawsPouring.{number_in}

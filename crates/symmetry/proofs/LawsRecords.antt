@@ -8,7 +8,7 @@ use mathlib.Core.List.{List, [], ◌∷◌, ◌++◌, Permᴰ}
 use native.Mathlib.Omega.{arith}
 use lib.ListN.{length, take, drop, length-append, length-drop, take-append-drop}
 use lib.Seq.{length-take-le}
-use Rattle.de9im.specs.declared.answer.BytesAnswer.{BytesAnswer}
+use Rattle.de9im.specs.Answers.{BytesAnswer}
 use Rattle.de9im.proofs.LawsApart.{ok_err}
 use Rattle.ends.specs.Every.{All, none, more}
 use Rattle.order.proofs.LawsPerm.{all_perm, perm_length}
