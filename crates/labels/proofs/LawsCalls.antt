@@ -21,19 +21,21 @@ use Rattle.ends.specs.Count.{most_ends}
 use Rattle.ends.specs.Ends.{or_fault}
 use Rattle.ends.specs.Label.{padded}
 use Rattle.star.specs.declared.edge_end_bundle_star.Labeled.{Labeled}
-use Rattle.star.specs.Calls.{bundled_as, bundled_of, refused_star, star_call, star_of}
+use Rattle.star.specs.Calls.{bundled_of, refused_star, star_call, star_of}
 use Rattle.star.specs.Answers.{bundled_place, labeled_place}
 use Rattle.star.proofs.LawsNumbers.{bundle-place, star-place}
 use Rattle.bundles.specs.Shown.{shown_word}
 use Rattle.decoder.specs.EndBytes.{Ends, good, bad, read_ends, ends_call}
-use Rattle.decoder.specs.declared.node_ends.JoinedEnds.{JoinedEnds}
-use Rattle.decoder.specs.Inner.Gathering.{ReadBy, JoinedRead}
+use Rattle.decoder.specs.Inner.Gathering.{JoinedRead}
 use Rattle.plan.proofs.LawsRecord.{call_fine}
 use Rattle.plan.proofs.LawsSmall.{read_place, call-nowhere}
-use Rattle.labels.specs.declared.star_call.LabelsPut.{LabelsPut}
 use Rattle.labels.specs.Labels.{labels_bytes}
 use Rattle.labels.specs.Calls.{count_of, bundle_call, star_on, shown_labels, room_for, star_checked, put_as, StarPut}
 use Rattle.labels.proofs.LawsLabels.{labels_length}
+
+-- the count by what is asked of it: whether the ends are whole, and whether they are too many
+abbrev counting : Bool → Bool → Result Unit Refusal
+counting whole many = cond whole (cond many (Err R.Ends) (Ok tt)) (Err R.Length)
 
 -- bytes whose count is refused are refused so; others are read one by one
 module _ (s : List ℕ) where
@@ -41,7 +43,7 @@ module _ (s : List ℕ) where
   unfolding ends_call
   count-bad r e = by (eqb (length s % 15) 0) (ltb most_ends (length s / 15)) e
     where
-      by : (t u : Bool) → cond t (cond u (Err R.Ends) (Ok tt)) (Err R.Length) ≡ Err r
+      by : (t u : Bool) → counting t u ≡ Err r
           → cond (not t) (bad R.Length) (cond u (bad R.Ends) (read_ends (length s / 15) s 0)) ≡ bad r
       by true true f = ap bad (cc)
       by true false f = ok_err f
@@ -55,7 +57,7 @@ module _ (s : List ℕ) where
   count-fine e = by (eqb (length s % 15) 0) (ltb most_ends (length s / 15)) refl refl e
     where
       by : (t u : Bool) → eqb (length s % 15) 0 ≡ t → ltb most_ends (length s / 15) ≡ u
-          → cond t (cond u (Err R.Ends) (Ok tt)) (Err R.Length) ≡ (Ok tt) → Counted
+          → counting t u ≡ (Ok tt) → Counted
       by true true f g h = ok_err (sym h)
       by true false f g h = record { whole = eqb-true _ _ f; few = ltb-false _ _ g }
       by false u f g h = ok_err (sym h)
@@ -77,14 +79,12 @@ module _ (s : List ℕ) (es : List EdgeEnd) (e : ends_call s ≡ good es) where
   star-read p q = rw (e, call_fine s es e, take-length es) refl
 
 -- what joining them came to is the bundle call
-pub joined_call : (s : List ℕ) (n : ℕ) (j : JoinedEnds) → 15 * n ≡ length s → n ≤ most_ends → JoinedRead n s 0 j
-    → bundled_as j.answer (shown_word j.word) ≡ bundle_call (ends_call s)
-joined_call s n j e h k = by j.answer k
-  where
-    by : (c : Result Unit Refusal) → ReadBy c (λ es. shown_word j.word ≡ join_of es) n s 0
-        → bundled_as c (shown_word j.word) ≡ bundle_call (ends_call s)
-    by (Ok tt) a = rw a.kept (sym (bundle-read s a.ends (call-reads s n e h ∙ a.read)))
-    by (Err r) f = sym (ap bundle_call (call-reads s n e h ∙ f))
+module _ (s : List ℕ) (n : ℕ) (e : 15 * n ≡ length s) (h : n ≤ most_ends) where
+  pub joined-good : (w : ℕ) → JoinedRead n s 0 (Ok w) → Ok (shown_word w) ≡ bundle_call (ends_call s)
+  joined-good w a = rw a.kept (sym (bundle-read s a.ends (call-reads s n e h ∙ a.read)))
+
+  pub joined-bad : (r : Refusal) → JoinedRead n s 0 (Err r) → Err r ≡ bundle_call (ends_call s)
+  joined-bad r f = sym (ap bundle_call (call-reads s n e h ∙ f))
 
 -- labels in an array, told again
 pub labels_shown : (ls : List Label) (n : ℕ) → length ls ≡ n → take n (padded ls) ≡ ls
@@ -92,8 +92,8 @@ labels_shown ls n e = rw (← e) (take-append_seam ls _)
 
 -- a star call that is refused leaves the buffer
 module _ (s : Labeled) (buf : List ℕ) where
-  pub refused-put : (r : Refusal) → s ≡ refused_star r → StarPut s buf (record { answer = Err r; count = 0 }) buf
-  refused-put r e = rw e (record { put = refl; bytes = refl; few = omega arith })
+  pub refused-put : (r : Refusal) → s ≡ refused_star r → StarPut s buf (Err r) buf
+  refused-put r e = rw e (record { put = refl; bytes = refl; few = tt })
 
   -- labels that fit go into its front, and others are 12
   module _ (ls : List Label) (e : s ≡ record { answer = (Ok tt); labels = padded ls; count = length ls }) where
@@ -107,19 +107,19 @@ module _ (s : Labeled) (buf : List ℕ) where
     many = rw e refl
 
     pub full_put : length ls ≤ most_ends → 7 * length ls ≤ length buf
-        → StarPut s buf (record { answer = (Ok tt); count = length ls }) (labels_bytes ls ++ drop (7 * length ls) buf)
+        → StarPut s buf (Ok (length ls)) (labels_bytes ls ++ drop (7 * length ls) buf)
     full_put k h =
         let l = labels_length ls in
         let room : room_for (labels_bytes ls) buf ≡ (Ok tt) = rw (l, le-leb _ _ h) refl in
         let told : star_checked s buf ≡ (Ok tt) = rw (fine, shows, room) refl in
         record { put = rw (told, many) refl; bytes = rw (told, shows, l) refl; few = k }
 
-    pub short-put : length buf < 7 * length ls → StarPut s buf (record { answer = Err R.NoRoom; count = 0 }) buf
+    pub short-put : length buf < 7 * length ls → StarPut s buf (Err R.NoRoom) buf
     short-put h =
         let l = labels_length ls in
         let room : room_for (labels_bytes ls) buf ≡ Err R.NoRoom = rw (l, lt-leb _ _ h) refl in
         let told : star_checked s buf ≡ Err R.NoRoom = rw (fine, shows, room) refl in
-        record { put = rw told refl; bytes = rw told refl; few = omega arith }
+        record { put = rw told refl; bytes = rw told refl; few = tt }
 
 -- no refusal of these calls has a place
 bundle-nowhere-by : (x : Ends) → read_place x ≡ None → bundled_place (bundle_call x) ≡ None
@@ -138,18 +138,18 @@ room-nowhere (Err r) t e = e
 room-nowhere (Ok tt) true e = refl
 room-nowhere (Ok tt) false e = refl
 
-put-place : (c : Result Unit Refusal) (n : ℕ) → answer_place (put_as c n).answer ≡ answer_place c
+put-place : (c : Result Unit Refusal) (n : ℕ) → answer_place (put_as c n) ≡ answer_place c
 put-place (Ok tt) n = refl
 put-place (Err r) n = refl
 
-pub put-nowhere : (s : List ℕ) (p q : Option CoordPos) (buf : List ℕ) (r : LabelsPut) (after : List ℕ)
-    → StarPut (star_on (ends_call s) p q) buf r after → answer_place r.answer ≡ None
+pub put-nowhere : (s : List ℕ) (p q : Option CoordPos) (buf : List ℕ) (r : Result ℕ Refusal) (after : List ℕ)
+    → StarPut (star_on (ends_call s) p q) buf r after → answer_place r ≡ None
 put-nowhere s p q buf r after put =
     let l = star_on (ends_call s) p q in
     rw put.put (put-place (star_checked l buf) l.count ∙
     room-nowhere l.answer (leb (length (shown_labels l)) (length buf)) (star_nowhere_by (ends_call s) p q (call-nowhere s)))
 
-count_by : (t u : Bool) → answer_place (cond t (cond u (Err R.Ends) (Ok tt)) (Err R.Length)) ≡ None
+count_by : (t u : Bool) → answer_place (counting t u) ≡ None
 count_by true true = refl
 count_by true false = refl
 count_by false u = refl
