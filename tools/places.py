@@ -1,7 +1,8 @@
 #!/usr/bin/env python3
-"""Counts the places of docs/DESIGN-PASS.md: python3 tools/places.py [--point N] [--list] [--why] [--crate NAME]
+"""Counts the places of docs/DESIGN-PASS.md: python3 tools/places.py [--point N] [--list] [--why] [--left] [--crate NAME]
 
---list prints each place as crate/src/file.rt:line: what; --why adds the comment just above it, where its reason to stay would stand. The
+--list prints each place as crate/src/file.rt:line: what; --why adds the comment just above it, where its reason to stay would stand; --left
+leaves out those that have one: a comment with the word Stays just above, in the body, or at the head of the file for all of it. The
 rules are patterns over the source, not judgements: places_forms.py has those of points 1 to 4, this file those of 5 to 8. misonkandi_c,
 whose functions pass a call of C on to misonkandi's of the same name, is left out, and counted in a line of its own under point 2.
 """
@@ -122,11 +123,29 @@ def beside(n, items, files):
         print(f"  beside: {sum(f.file.startswith(C_SIDE) for f in kinds_of(items, 'fn'))} functions of misonkandi_c, each as misonkandi's")
 
 
+def stays(lines, line):
+    """Whether a reason stands by a place: at the head of its file, just above it, or in its body."""
+    head = []
+    for x in lines:
+        if not x.startswith("//"):
+            break
+        head.append(x)
+    k = line - 2
+    while k >= 0 and lines[k].strip().startswith(("//", "#[")):
+        head.append(lines[k])
+        k -= 1
+    for x in lines[line - 1 :]:
+        head.append(x if "//" in x else "")
+        if x.startswith("}") or x.startswith("    }"):
+            break
+    return any(re.search(r"//.*\bstays?\b", x, re.I) for x in head)
+
+
 def main():
     parser = argparse.ArgumentParser()
     parser.add_argument("--point", type=int)
     parser.add_argument("--crate")
-    for flag in ("--list", "--why"):
+    for flag in ("--list", "--why", "--left"):
         parser.add_argument(flag, action="store_true")
     args = parser.parse_args()
     files, items = read()
@@ -138,7 +157,10 @@ def main():
             file, line = at if isinstance(at, tuple) else (at.file, at.line)
             if not args.crate or file.startswith(args.crate + "/"):
                 found.append((rule, file, line, what))
-        print(f"point {n}: {len(found)}")
+        kept = [f for f in found if stays(lines.get(f[1], []), f[2])]
+        print(f"point {n}: {len(found)}, {len(kept)} of them with a reason")
+        if args.left:
+            found = [f for f in found if f not in kept]
         beside(n, items, files)
         for rule in dict.fromkeys(f[0] for f in found):
             here = [f for f in found if f[0] == rule]
