@@ -16,15 +16,15 @@ use Rattle.frame.proofs.LawsLentNumbers.{write-used, write-place}
 use Rattle.place.specs.declared.places.Rect.{Rect}
 use Rattle.regions.specs.declared.region.Region.{Region}
 use Rattle.regions.specs.declared.region.Region.TheVariants.{NoneOfThese}
-use Rattle.regions.specs.Boxes.{boxes_region, boxes_place}
+use Rattle.regions.specs.Boxes.{boxes_region}
 use Rattle.regions.specs.Names.{name_of}
 use Rattle.regions.specs.Numbers.{number_of}
 use Rattle.regions.proofs.LawsBoxes.{never-none}
 use Rattle.regions.proofs.LawsNames.{number-told, number_small, name_short}
 use Rattle.misonkandi.specs.Regions.{boxes_word, named_word}
 use Rattle.misonkandi.proofs.LawsFit.{none_below}
-use Rattle.misonkandi.proofs.LawsRecords.{Fits}
-use Rattle.misonkandi.proofs.LawsTold.{refusal-told, no_answer}
+use Rattle.misonkandi.specs.Records.{Fits}
+use Rattle.misonkandi.proofs.LawsTold.{told_back}
 
 -- a name is short, so the answer to writing it fits its word
 at_most : (t : Bool) (n : ℕ) → cond t n 0 ≤ n
@@ -39,11 +39,10 @@ name_fits r buf at =
     )
 
 -- two answers with one word are one
-pub boxes_told : (a b : Result Region Refusal) → spot_no (boxes_place a) < 256 → spot_no (boxes_place b) < 256 → boxes_word a ≡ boxes_word b → a ≡ b
-boxes_told (Ok r) (Ok s) h i e = ap Ok (number-told r s e)
-boxes_told (Ok r) (Err q) h i e = no_answer (number_of r) q (omega (arith, number_small r)) e
-boxes_told (Err q) (Ok s) h i e = no_answer (number_of s) q (omega (arith, number_small s)) (sym e)
-boxes_told (Err q) (Err p) h i e = ap Err (refusal-told q p h i e)
+pub boxes_told : (a b : Result Region Refusal) → spot_no (answer_place a) < 256 → spot_no (answer_place b) < 256
+    → boxes_word a ≡ boxes_word b → a ≡ b
+boxes_told a b h i e =
+    told_back number_of a b number-told (λ r f. omega (arith, number_small r)) (λ r f. omega (arith, number_small r)) h i e
 
 pub region_named_told : (a b : Option Region) → named_word a ≡ named_word b → a ≡ b
 region_named_told (Some r) (Some s) e = ap Some (number-told r s e)
