@@ -1,5 +1,5 @@
 -- From letters to masks: one more letter is one more cell of each, nine fit, and each bit is its letter's. Assumes nothing.
-use Rattle.std.specs.Prelude.{Result, Ok, Err}
+use Rattle.std.specs.Prelude.{Ok}
 use Prim.Native.Nat.{ℕ, ◌+◌, ◌%◌, ◌^◌, ◌≤◌, ◌<◌}
 use mathlib.Core.Path.{◌≡◌, refl, ap, ◌∙◌}
 use mathlib.Core.Bool.{Bool, true, false, not}
@@ -11,7 +11,6 @@ use lib.Dec.{eqb}
 use lib.ListN.{get_or}
 use Rattle.de9im.specs.declared.dimensions.Dimensions.{Dimensions}
 use Rattle.de9im.specs.declared.dimensions.Dimensions.TheVariants.{Empty, ZeroDimensional, OneDimensional, TwoDimensional}
-use Rattle.de9im.specs.declared.refusal.Refusal.{Refusal}
 use Rattle.de9im.specs.Dimension.{dim_no}
 use Rattle.de9im.specs.EighteenBits.{cell_in}
 use Rattle.de9im.specs.Letters.{letter_of, accepted_of}
@@ -22,7 +21,7 @@ use Rattle.de9im.proofs.LawsLetters.{accepted-bit}
 use Rattle.predicates.proofs.LawsTerms.{four_cases}
 use Rattle.masks.specs.declared.planes.Planes.{Planes}
 use Rattle.predicates.specs.Eleven.{bit_of}
-use Rattle.masks.specs.Patterns.{plane, refused_at, mask_of, masks_of, four_zeros, masked_of}
+use Rattle.masks.specs.Patterns.{plane, refused_at, mask_of, masks_of, masked_of}
 use Rattle.masks.specs.Engine.{refuses}
 use Rattle.masks.specs.Inner.Planes.{planes_to, planes_of, left_out, next_of, Narrow}
 use Rattle.masks.proofs.LawsPlanes.{bit-small, plane-same, plane-next}
@@ -64,14 +63,8 @@ module _ (p : List ℕ) where
     masks-are : m ≡ planes_of (refused_at p)
     masks-are = is ∙ rw (are, mask_is Empty, mask_is ZeroDimensional, mask_is OneDimensional, mask_is TwoDimensional) refl
 
-    pub made-fine : check_of p ≡ (Ok tt) → record { answer = (Ok tt); masks = m.f ∷ m.d0 ∷ m.d1 ∷ m.d2 ∷ [] } ≡ masked_of p
-    unfolding masked_of
+    pub made-fine : check_of p ≡ Ok tt → Ok (m.f ∷ m.d0 ∷ m.d1 ∷ m.d2 ∷ []) ≡ masked_of p
     made-fine e = rw (e, masks-are) refl
-
-  pub made-refused : (x : Result Unit Refusal) (r : Refusal) → x ≡ check_of p → x ≡ Err r
-      → record { answer = x; masks = four_zeros } ≡ masked_of p
-  unfolding masked_of
-  made-refused x r e h = rw (← e, h) refl
 
   -- the link, read back: what the masks of a pattern refuse is what its letters refuse
   mask_at : (k i : ℕ) → k < 9 → eqb (cell_in (mask_of p i) k % 2) 1 ≡ refused_at p k i
