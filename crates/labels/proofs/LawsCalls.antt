@@ -20,8 +20,8 @@ use Rattle.ends.specs.Bundle.{join_of}
 use Rattle.ends.specs.Count.{most_ends}
 use Rattle.ends.specs.Ends.{or_fault}
 use Rattle.ends.specs.Label.{padded}
-use Rattle.star.specs.declared.edge_end_bundle_star.Labeled.{Labeled}
-use Rattle.star.specs.Calls.{bundled_of, refused_star, star_call, star_of}
+use Rattle.star.specs.declared.edge_end_bundle_star.Labels.{Labels}
+use Rattle.star.specs.Calls.{bundled_of, labels_in, count_in, star_fine, star_call, star_of}
 use Rattle.star.specs.Answers.{bundled_place, labeled_place}
 use Rattle.star.proofs.LawsNumbers.{bundle-place, star-place}
 use Rattle.bundles.specs.Shown.{shown_word}
@@ -91,19 +91,19 @@ pub labels_shown : (ls : List Label) (n : ℕ) → length ls ≡ n → take n (p
 labels_shown ls n e = rw (← e) (take-append_seam ls _)
 
 -- a star call that is refused leaves the buffer
-module _ (s : Labeled) (buf : List ℕ) where
-  pub refused-put : (r : Refusal) → s ≡ refused_star r → StarPut s buf (Err r) buf
+module _ (s : Result Labels Refusal) (buf : List ℕ) where
+  pub refused-put : (r : Refusal) → s ≡ Err r → StarPut s buf (Err r) buf
   refused-put r e = rw e (record { put = refl; bytes = refl; few = tt })
 
   -- labels that fit go into its front, and others are 12
-  module _ (ls : List Label) (e : s ≡ record { answer = (Ok tt); labels = padded ls; count = length ls }) where
+  module _ (ls : List Label) (e : s ≡ Ok (record { labels = padded ls; count = length ls })) where
     shows : shown_labels s ≡ labels_bytes ls
     shows = rw (e, labels_shown ls (length ls) refl) refl
 
-    fine : s.answer ≡ Ok tt
+    fine : star_fine s ≡ Ok tt
     fine = rw e refl
 
-    many : s.count ≡ length ls
+    many : count_in s ≡ length ls
     many = rw e refl
 
     pub full_put : length ls ≤ most_ends → 7 * length ls ≤ length buf
@@ -133,6 +133,10 @@ star_nowhere_by : (x : Ends) (p q : Option CoordPos) → read_place x ≡ None �
 star_nowhere_by (good es) p q e = star-place es (length es) p q
 star_nowhere_by (bad r) p q e = e
 
+fine-place : (s : Result Labels Refusal) → answer_place (star_fine s) ≡ labeled_place s
+fine-place (Ok l) = refl
+fine-place (Err r) = refl
+
 room-nowhere : (c : Result Unit Refusal) (t : Bool) → answer_place c ≡ None → answer_place (or_fault c (cond t (Ok tt) (Err R.NoRoom))) ≡ None
 room-nowhere (Err r) t e = e
 room-nowhere (Ok tt) true e = refl
@@ -146,8 +150,9 @@ pub put-nowhere : (s : List ℕ) (p q : Option CoordPos) (buf : List ℕ) (r : R
     → StarPut (star_on (ends_call s) p q) buf r after → answer_place r ≡ None
 put-nowhere s p q buf r after put =
     let l = star_on (ends_call s) p q in
-    rw put.put (put-place (star_checked l buf) l.count ∙
-    room-nowhere l.answer (leb (length (shown_labels l)) (length buf)) (star_nowhere_by (ends_call s) p q (call-nowhere s)))
+    rw put.put (put-place (star_checked l buf) (count_in l) ∙
+    room-nowhere (star_fine l) (leb (length (shown_labels l)) (length buf))
+    (fine-place l ∙ star_nowhere_by (ends_call s) p q (call-nowhere s)))
 
 count_by : (t u : Bool) → answer_place (counting t u) ≡ None
 count_by true true = refl

@@ -4,7 +4,8 @@ use Rattle.std.specs.Result.{IfOk}
 use Rattle.std.proofs.Common.{ℕ, ◌≡◌, ◌≤◌, ◌<◌, List, arith, refl, ◌∙◌}
 use Rattle.de9im.specs.Answers.{used_of}
 use Rattle.de9im.specs.declared.refusal.Refusal.{Refusal}
-use Rattle.star.specs.declared.edge_end_bundle_star.Labeled.{Labeled}
+use Rattle.star.specs.declared.edge_end_bundle_star.Labels.{Labels}
+use Rattle.star.specs.Calls.{count_in}
 use Rattle.labels.specs.Calls.{star_checked, put_as, StarPut}
 use Rattle.misonkandi.specs.Records.{answer_word}
 use Rattle.misonkandi.specs.Stars.{StarTold}
@@ -18,6 +19,6 @@ put_word : (c : Result Unit Refusal) (n : ℕ) → answer_word (put_as c n) ≡ 
 put_word (Ok tt) n = refl
 put_word (Err r) n = refl
 
-pub star_told : (s : Labeled) (held : List ℕ) (r : Result ℕ Refusal) (after : List ℕ) (w : ℕ) → StarPut s held r after → w ≡ answer_word r
+pub star_told : (s : Result Labels Refusal) (held : List ℕ) (r : Result ℕ Refusal) (after : List ℕ) (w : ℕ) → StarPut s held r after → w ≡ answer_word r
     → StarTold s held w after
-star_told s held r after w p e = record { told = e ∙ rw p.put (put_word (star_checked s held) s.count); bytes = p.bytes }
+star_told s held r after w p e = record { told = e ∙ rw p.put (put_word (star_checked s held) (count_in s)); bytes = p.bytes }

@@ -1,6 +1,6 @@
 -- Exchanging A and B in every end of a node, and in the node, exchanges them in each label of its completed star; refusal 9 stays; and what
 -- is poured is poured into the cell with row and column exchanged. Assumes nothing.
-use Rattle.std.specs.Prelude.{Option, Some}
+use Rattle.std.specs.Prelude.{Option, Some, None}
 use Rattle.de9im.specs.declared.coordinate_position.CoordPos.{CoordPos}
 use Rattle.de9im.specs.declared.coordinate_position.CoordPos.TheVariants.{Inside, OnBoundary, Outside}
 use Prim.Native.Nat.{ℕ}
@@ -212,7 +212,10 @@ missing-other ls =
 
 -- pouring
 into-other : (a b : Option CoordPos) (d : Dimensions) (i j : ℕ) → into b a d i j ≡ into a b d j i
-into-other a b d i j = rw (and_comm (eqb (row_of b) i) (eqb (row_of a) j)) refl
+into-other (Some a) (Some b) d i j = rw (and_comm (eqb (row_of b) i) (eqb (row_of a) j)) refl
+into-other (Some a) None d i j = refl
+into-other None (Some b) d i j = refl
+into-other None None d i j = refl
 
 label-other : (l : Label) (i j : ℕ) → label_into (other_label l) i j ≡ label_into l j i
 label-other l i j =
