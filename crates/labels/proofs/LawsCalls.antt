@@ -78,13 +78,22 @@ module _ (s : List ℕ) (es : List EdgeEnd) (e : ends_call s ≡ good es) where
   unfolding star_call
   star-read p q = rw (e, call_fine s es e, take-length es) refl
 
+-- the number of a bundle as its label
+abbrev shown_as : Result ℕ Refusal → Result Label Refusal
+shown_as (Ok w) = Ok (shown_word w)
+shown_as (Err r) = Err r
+
 -- what joining them came to is the bundle call
 module _ (s : List ℕ) (n : ℕ) (e : 15 * n ≡ length s) (h : n ≤ most_ends) where
-  pub joined-good : (w : ℕ) → JoinedRead n s 0 (Ok w) → Ok (shown_word w) ≡ bundle_call (ends_call s)
+  joined-good : (w : ℕ) → JoinedRead n s 0 (Ok w) → Ok (shown_word w) ≡ bundle_call (ends_call s)
   joined-good w a = rw a.kept (sym (bundle-read s a.ends (call-reads s n e h ∙ a.read)))
 
-  pub joined-bad : (r : Refusal) → JoinedRead n s 0 (Err r) → Err r ≡ bundle_call (ends_call s)
+  joined-bad : (r : Refusal) → JoinedRead n s 0 (Err r) → Err r ≡ bundle_call (ends_call s)
   joined-bad r f = sym (ap bundle_call (call-reads s n e h ∙ f))
+
+  pub joined_call : (j : Result ℕ Refusal) → JoinedRead n s 0 j → shown_as j ≡ bundle_call (ends_call s)
+  joined_call (Ok w) a = joined-good w a
+  joined_call (Err r) f = joined-bad r f
 
 -- labels in an array, told again
 pub labels_shown : (ls : List Label) (n : ℕ) → length ls ≡ n → take n (padded ls) ≡ ls
