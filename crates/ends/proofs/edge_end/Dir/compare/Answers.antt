@@ -1,6 +1,5 @@
 -- Two directions on an axis stand as the numbers of their axes do.
 use Rattle.std.proofs.Common.{sym, ◌∙◌}
-use Rattle.std.specs.declared.cmp.Ordering.TheVariants.{Equal}
 use Rattle.ends.specs.Inner.Axis.{axis_of}
 use Rattle.ends.proofs.LawsAxis.{axis-order}
 use Rattle.ends.proofs.LawsDirection.{by_cmp}
