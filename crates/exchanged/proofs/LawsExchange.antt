@@ -1,17 +1,18 @@
 -- Exchanging two outlines transposes the matrix of those that are let pass, and so the answer to any two. Assumes nothing.
-use Rattle.std.specs.Prelude.{Some}
+use Rattle.std.specs.Prelude.{Some, None, Result, Ok, Err}
 use Prim.Native.Nat.{ℕ}
 use mathlib.Core.Path.{◌≡◌, refl, sym, ap, ◌∙◌}
 use mathlib.Core.List.{List, [], ◌∷◌}
 use lib.IntN.{ℤ}
+use mathlib.Core.Bool.{false}
+use Rattle.de9im.proofs.LawsApart.{true_false}
 use Rattle.de9im.proofs.LawsBool.{told}
 use Rattle.ends.specs.declared.label.Label.{Label}
 use Rattle.outline.specs.declared.corners.Corner.{Corner}
 use Rattle.outline.specs.Lent.{corners_in}
 use Rattle.outline.specs.Meaning.{Accepted}
 use Rattle.outline.specs.Position.{position_of}
-use Rattle.pairs.specs.declared.first.Found.TheVariants.{Nothing}
-use Rattle.pairs.specs.declared.fault.Fault.TheVariants.{Sound}
+use Rattle.pairs.specs.declared.fault.Fault.{Fault}
 use Rattle.pairs.specs.Fault.{fault_of}
 use Rattle.pairs.specs.First.{within_of}
 use Rattle.pairs.proofs.LawsFault.{passed}
@@ -19,8 +20,8 @@ use Rattle.walks.specs.Completing.{completed_of}
 use Rattle.floors.specs.declared.floor.FloorAnswer.{FloorAnswer}
 use Rattle.nodes.specs.Records.{distinct_of}
 use Rattle.commission.specs.Poured.{node_for, poured_for}
-use Rattle.commission.specs.Related.{start_cells, matrix_for, related_of}
-use Rattle.commission.specs.Sound.{is_sound}
+use Rattle.commission.specs.Related.{start_cells, matrix_for, related_of, cells_of}
+use Rattle.commission.specs.Sound.{is_sound, where_sound}
 use Rattle.commission.proofs.LawsPoured.{records-poured}
 use Rattle.commission.proofs.LawsSound.{is-sound}
 use Rattle.symmetry.specs.Exchange.{flipped}
@@ -54,29 +55,38 @@ module _ (a b : List Corner) (ok : Accepted a) (oj : Accepted b) where
   corners-flipped [] ns = refl
   corners-flipped (p ∷ ps) ns = ap (poured_for b a ps) (corner-flipped p ns) ∙ corners-flipped ps (after a b ns p)
 
-  pub matrix-flipped : within_of a ≡ Nothing → within_of b ≡ Nothing → matrix_for b a ≡ flipped (matrix_for a b)
+  pub matrix-flipped : within_of a ≡ None → within_of b ≡ None → matrix_for b a ≡ flipped (matrix_for a b)
   matrix-flipped e f =
       matrix-poured b a oj ok ∙ poured-perm b a oj ok (distinct_perm a b ok oj e f) start_cells
       ∙ corners-flipped (distinct_of a b) start_cells ∙ sym (ap flipped (matrix-poured a b ok oj))
 
 -- two outlines that aren't refused
-pub related_poured : (a b : List ℤ) → fault_of a b ≡ Sound
-    → (related_of a b).cells ≡ poured_for (corners_in a) (corners_in b) (distinct_of (corners_in a) (corners_in b)) start_cells
+pub related_poured : (a b : List ℤ) → fault_of a b ≡ Ok tt
+    → cells_of (related_of a b) ≡ poured_for (corners_in a) (corners_in b) (distinct_of (corners_in a) (corners_in b)) start_cells
 unfolding related_of
 related_poured a b h =
     let p = passed a b h in
     rw h (matrix-poured (corners_in a) (corners_in b) p.of-a.accepted p.of-b.accepted)
 
-pub sound-flipped : (a b : List ℤ) → fault_of a b ≡ Sound
+pub sound-flipped : (a b : List ℤ) → fault_of a b ≡ Ok tt
     → matrix_for (corners_in b) (corners_in a) ≡ flipped (matrix_for (corners_in a) (corners_in b))
 sound-flipped a b h =
     let p = passed a b h in
     matrix-flipped (corners_in a) (corners_in b) p.of-a.accepted p.of-b.accepted p.cut.in-a p.cut.in-b
 
 -- any two: beside a refusal stands the start matrix, which is its own transposed
-pub related_flipped : (a b : List ℤ) → (related_of b a).cells ≡ flipped (related_of a b).cells
+pub related_flipped : (a b : List ℤ) → cells_of (related_of b a) ≡ flipped (cells_of (related_of a b))
 unfolding related_of
 related_flipped a b =
     told (is_sound (fault_of a b))
-    (λ e. rw (sound-alike a b, e) (sound-flipped a b (is-sound (fault_of a b) e)))
-    (λ e. rw (sound-alike a b, e) refl)
+    (λ e.
+    let f = is-sound (fault_of a b) e in
+    rw (f, is-sound (fault_of b a) (sound-alike a b ∙ e)) (sound-flipped a b f))
+    (λ e. by (fault_of a b) e (fault_of b a) (sound-alike a b ∙ e))
+  where
+    by : (c : Result Unit Fault) → is_sound c ≡ false → (d : Result Unit Fault) → is_sound d ≡ false
+        → cells_of (where_sound d (matrix_for (corners_in b) (corners_in a)))
+        ≡ flipped (cells_of (where_sound c (matrix_for (corners_in a) (corners_in b))))
+    by (Ok u) e d f = true_false e
+    by (Err r) e (Ok u) f = true_false f
+    by (Err r) e (Err q) f = refl
