@@ -49,6 +49,7 @@ impl NearCorner {
     }
 
     // How far it lies from p, along x and along y.
+    // Stay two: each names its coordinate.
     pub fn x_from(self, p: NearCorner) -> i32
         ensures { result ≡ self.x -ℤ p.x }
     {
@@ -68,6 +69,7 @@ impl NearCorner {
     }
 
     // Between two others along x, and along y.
+    // Stay two: each names its coordinate.
     pub fn abreast(self, a: NearCorner, b: NearCorner) -> bool
         ensures { result ≡ between_z a.x self.x b.x }
     {
