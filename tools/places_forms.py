@@ -191,12 +191,12 @@ def point_4(files, items):
     """Functions that only choose: a `match` whose arms are literals, variants, or one call of one argument (a conversion, an equality, a
     text to print); min, max, size and sign; a choice by a flag; an order, or fields compared one by one; casts under a name; the bytes of a
     number put together or taken apart; digits, letters and floats; conversions under a name of their own; fields handed out; copies by a
-    loop. Own enums of an order (Before)."""
+    loop. Own enums of an order (Before). What stands in an impl of a trait, as From and Display, is today's form, and no place."""
     enums = {e.name for e in kinds_of(items, "enum")}
     for e in kinds_of(items, "enum"):
         if "Before" in {n for n, _ in e.variants}:
             yield "order by hand", e, f"enum {e.name}"
     for f in kinds_of(items, "fn"):
         rule = by_hand(f, enums)
-        if rule:
+        if rule and not f.of_trait:
             yield rule, f, f"fn {f.name}({', '.join(k for _, k in f.params)}) -> {f.result or '()'}"

@@ -90,7 +90,9 @@ def functions(path, text):
         if text[b:b + 1] != "{":
             continue
         e = closing(text, b)
-        yield Item(sort="fn", name=m.group(1), params=params, result=result, clauses=clauses, body=text[b + 1:e], file=path,
+        above = re.findall(r"(?m)^[a-z}#][^\n]*", text[:m.start()])
+        own = text[text.rfind("\n", 0, m.start()) + 1:m.start()].startswith(" ") and [x for x in above if x.startswith("impl")]
+        yield Item(sort="fn", of_trait=bool(own) and " for " in own[-1], name=m.group(1), params=params, result=result, clauses=clauses, body=text[b + 1:e], file=path,
                    line=text.count("\n", 0, m.start()) + 1, body_line=text.count("\n", 0, b) + 1)
 
 
