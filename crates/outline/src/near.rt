@@ -1,10 +1,11 @@
 // A corner in range, and how two others lie as seen from it. What is in range has differences and products that fit.
 ghost use Rattle.std.specs.Prelude.{◌<◌, ◌/◌, false, ◌≡◌, ◌*ℤ◌, ◌-ℤ◌, length, get_or};
-ghost use Rattle.outline.specs.Corners.{far_z, far_corner, same_corner, some_far, no_corner};
+ghost use Rattle.outline.specs.Corners.{far_corner, same_corner, some_far, no_corner};
 ghost use Rattle.outline.specs.Position.{across, between_z, above};
 ghost use Rattle.outline.specs.Lent.{corners_in};
 
 use crate::corners::{Corner, corner_at};
+use crate::side::minus;
 use std::marker::Model;
 
 // Both coordinates are within ±1,000,000,000. A contract sees the corner itself.
@@ -87,14 +88,6 @@ impl NearCorner {
     {
         self.at.y < a.at.y
     }
-}
-
-// Both within ±1,000,000,000, so the difference fits.
-fn minus(a: i32, p: i32) -> i32
-    requires { (far_z a ≡ false) × (far_z p ≡ false) }
-    ensures { result ≡ a -ℤ p }
-{
-    a - p
 }
 
 // Parts of 32 bits, so the product always fits.
