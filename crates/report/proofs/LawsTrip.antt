@@ -233,7 +233,11 @@ there_and_back s bs rest small o =
     (λ v. ap (λ (x : List ℕ). other_bytes (x ++ rest)) (sym (short-bytes s ns bs rest e o v)) ∙ back_long s ns rest small e v)
     (λ v. ap (λ (x : List ℕ). other_bytes (x ++ rest)) (sym (long-bytes s ns bs rest e o v)) ∙ back-short s ns rest small e v)
 
--- and a converted report is read as the first one is
-pub same-matrix : (s bs rest : List ℕ) (a : Report) → other_bytes s ≡ good bs → read_report s ≡ Ok a
-    → read_report (bs ++ rest) ≡ Ok (record { cells = a.cells; used = length bs })
-same-matrix s bs rest a o e = same-cells s a.cells bs rest (accepted s a e).1 o
+-- and a converted report is read as the first one is, which is accepted
+pub same-matrix : (s bs rest : List ℕ) → other_bytes s ≡ good bs
+    → (a : Report) × (read_report s ≡ Ok a) × (read_report (bs ++ rest) ≡ Ok (record { cells = a.cells; used = length bs }))
+unfolding read_report
+same-matrix s bs rest o =
+    let ns = sayings (report_said s) in
+    let e = converted_said s bs o in
+    (record { cells = ns; used = 2 + promised s }, ap (report_as (2 + promised s)) e, same-cells s ns bs rest e o)
