@@ -2,7 +2,7 @@
 """Counts the places of docs/DESIGN-PASS.md: python3 tools/places.py [--point N] [--list] [--why] [--left] [--crate NAME]
 
 --list prints each place as crate/src/file.rt:line: what; --why adds the comment just above it, where its reason to stay would stand; --left
-leaves out those that have one: a comment with the word Stays just above, in the body, or at the head of the file for all of it. The
+leaves out those that have one: a comment with the word Stay or Stays just above, in the body, or at the head of the file for all of it. The
 rules are patterns over the source, not judgements: places_forms.py has those of points 1 to 4, this file those of 5 to 8. misonkandi_c,
 whose functions pass a call of C on to misonkandi's of the same name, is left out, and counted in a line of its own under point 2.
 """
@@ -138,7 +138,7 @@ def stays(lines, line):
         head.append(x if "//" in x else "")
         if x.startswith("}") or x.startswith("    }"):
             break
-    return any(re.search(r"//.*\bstays?\b", x, re.I) for x in head)
+    return any(re.search(r"//.*\bStays?\b", x) for x in head)
 
 
 def main():
